@@ -2,9 +2,9 @@
 use Rattle.std.proofs.Common.{◌≡◌, ℕ, ◌+◌, List, [], ◌∷◌, ◌++◌, length, map, refl, sym, ap, ◌∙◌, append_assoc, arith}
 use Rattle.std.proofs.lemmas.List.{append-nil, length-map, map-append}
 use Rattle.std.specs.List.{AllZip}
-use Rattle.rs_places.specs.Shared.{SharedValue}
-use Rattle.rs_places.specs.Turns.{Connections}
-use Rattle.rs_places.proofs.Starting.{each_length}
+use Rattle.rs_turns.specs.Shared.{SharedValue}
+use Rattle.rs_turns.specs.Turns.{Connections}
+use Rattle.rs_turns.proofs.Each.{each_length}
 use Rattle.rs_steps.specs.Served.{Client}
 use Rattle.rs_clients.specs.Fleet.{client_at, clients_of}
 

@@ -9,16 +9,18 @@ use Rattle.rs_message.specs.declared.entry.Entry.{Entry}
 use Rattle.rs_store.specs.History.{IsLegal}
 use Rattle.rs_version.specs.Writer.{Written, kept_of}
 use Rattle.rs_queue.specs.Changes.{AreOfLine}
-use Rattle.rs_intake.specs.Lines.{Closed, IsClosed, Line, new_lines}
-use Rattle.rs_intake.specs.Done.{IsWritten, Told}
+use Rattle.rs_line.specs.Lines.{Line, new_lines}
+use Rattle.rs_queue.specs.Ends.{Closed, IsClosed}
+use Rattle.rs_line.specs.Done.{IsWritten, Told}
 use Rattle.rs_intake.specs.Settling.{AreOfPlaces, AreTakenInOrder, EachOnce}
 use Rattle.rs_session.specs.Gate.{Extends}
-use Rattle.rs_places.specs.Shared.{SharedValue}
+use Rattle.rs_turns.specs.Shared.{SharedValue}
 use Rattle.rs_places.specs.Store.{IsSettled, IsUnsettled}
-use Rattle.rs_places.specs.Turns.{Connections}
-use Rattle.rs_places.proofs.Starting.{each_with}
-use Rattle.rs_places.proofs.Whole.{all_seen, line_of, map_map, new_lines_length, visits_within, writer_run, written_part}
-use Rattle.rs_clients.specs.Clients.{new_client, new_clients}
+use Rattle.rs_turns.specs.Turns.{Connections}
+use Rattle.rs_turns.proofs.Each.{each_with}
+use Rattle.rs_places.proofs.Whole.{all_seen, line_of, map_map, new_lines_length, writer_run, written_part}
+use Rattle.rs_turns.proofs.Within.{visits_within}
+use Rattle.rs_client_gate.specs.Clients.{new_client, new_clients}
 use Rattle.rs_steps.specs.Served.{Client, ClientLeft, IsTurnServed, client_left}
 use Rattle.rs_clients.specs.Fleet.{IsClientOf, IsFleetRun, clients_of, fleet_gates}
 

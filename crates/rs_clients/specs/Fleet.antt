@@ -2,15 +2,17 @@
 use Rattle.std.specs.Prelude.{◌≡◌, ℕ, ◌+◌, ◌-◌, ◌*◌, ◌%◌, ◌^◌, min, All, List, [], ◌∷◌, length, map, slice_index_or, Option, MatchOption}
 use Rattle.std.specs.List.{AllZip}
 use Rattle.rs_queue.specs.Changes.{AreOfLine}
-use Rattle.rs_intake.specs.Lines.{Closed, IsClosed, new_lines}
+use Rattle.rs_line.specs.Lines.{new_lines}
+use Rattle.rs_queue.specs.Ends.{Closed, IsClosed}
 use Rattle.rs_intake.specs.Settling.{EachOnce}
 use Rattle.rs_message.specs.declared.entry.Entry.{Entry}
 use Rattle.rs_session.specs.Gate.{Extends}
-use Rattle.rs_places.specs.Shared.{SharedValue}
-use Rattle.rs_places.specs.Store.{AreWithin, IsLineOf, IsSettled, IsUnsettled, IsWriterRun}
-use Rattle.rs_places.specs.Turns.{Connections}
+use Rattle.rs_turns.specs.Shared.{SharedValue}
+use Rattle.rs_turns.specs.Within.{AreWithin}
+use Rattle.rs_places.specs.Store.{IsLineOf, IsSettled, IsUnsettled, IsWriterRun}
+use Rattle.rs_turns.specs.Turns.{Connections}
 use Rattle.rs_steps.specs.Served.{Client, ClientLeft, IsClientServed, client_with}
-use Rattle.rs_clients.specs.Clients.{new_client}
+use Rattle.rs_client_gate.specs.Clients.{new_client}
 
 -- the number of a client's first connection: those of two clients lie 2^40 apart. The greatest u64 is repeated
 abbrev pub first_number : ℕ → ℕ

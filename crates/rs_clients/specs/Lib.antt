@@ -1,3 +1,1 @@
-pub mod Batches
-pub mod Clients
 pub mod Fleet

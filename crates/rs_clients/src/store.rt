@@ -4,10 +4,12 @@ ghost use Rattle.std.specs.Prelude.{◌≡◌, IfOk, [], map};
 ghost use Rattle.rs_clients.specs.Fleet.{IsFleetRun};
 
 use crate::fleet::{FleetEnd, run_clients};
-use crate::shared_places::SharedPlaces;
-use rs_intake::{BlankQueue, LineName};
-use rs_places::{StoreEnd, StoreFault, Turn, settle_run, start_writer};
+use rs_client_gate::SharedPlaces;
+use rs_intake::BlankQueue;
+use rs_line::LineName;
+use rs_places::{StoreEnd, settle_run, start_writer};
 use rs_pool::Watch;
+use rs_turns::{StoreFault, Turn};
 use rs_version::Blank;
 use std::alloc::Global;
 use std::marker::Brand;

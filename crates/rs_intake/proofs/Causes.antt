@@ -1,14 +1,15 @@
 -- Why the writer's loop ended. As many Ends as places are those of all places.
 use Rattle.std.proofs.Common.{◌≡◌, ◌==◌, ℕ, zero, suc, ◌+◌, ◌<◌, ◌≤◌, ⊎_elim, Bool, true, false, cond, List, [], ◌∷◌, length, sym, ap, subst, ◌∙◌, arith}
+use Rattle.std.proofs.lemmas.Bool.{cases_lt}
 use Rattle.std.specs.List.{AllByRecursion}
 use Rattle.rs_message.specs.declared.entry.Entry.{Entry}
 use Rattle.rs_queue.specs.Changes.{place_of_all}
 use Rattle.rs_intake.specs.Causes.{HaveEnded, IsCause}
-use Rattle.rs_intake.specs.Lines.{Received}
+use Rattle.rs_line.specs.Lines.{Received}
 use Rattle.rs_queue.specs.QueueRule.{AreEnds, IsOutside, at_place}
 use Rattle.rs_intake.specs.declared.cause.Cause.{Cause}
 use Rattle.rs_queue.proofs.Queues.{at_place-head, at_place-tail}
-use Rattle.rs_intake.proofs.Sums.{compare, inside, sum_to, sum_to-add, sum_to-same, there_once, zeros}
+use Rattle.rs_intake.proofs.Sums.{inside, sum_to, sum_to-add, sum_to-same, there_once, zeros}
 
 length-at_place : (place x : ℕ) (xs : List ℕ) → length (at_place place (x ∷ xs)) ≡ cond (x == place) 1 0 + length (at_place place xs)
 length-at_place place x xs = go (x == place)
@@ -39,7 +40,7 @@ each_one (suc n) f small whole p low high =
     ⊎_elim
     (λ (t : n < p). let is : p ≡ suc n = omega (arith, t, high) in let last : f (suc n) ≡ 1 = omega (arith, most, one, whole) in ap f is ∙ last)
     (λ (t : p ≤ n). each_one n f small (omega (arith, most, one, whole)) p low t)
-    (compare n p)
+    (cases_lt n p)
 
 pub all_ended : (places : ℕ) (ends : List ℕ) → AreEnds places ends → length ends ≡ places → HaveEnded places ends
 all_ended places ends are count =

@@ -10,10 +10,10 @@ use Rattle.rs_store.specs.History.{SerialsRise, cleaned, extended}
 use Rattle.rs_version.specs.Writer.{Refuses, Written, kept_of, shows}
 use Rattle.rs_version.specs.declared.fault.PutFault.TheVariants.{Full, Held, NoMemory, Stale}
 use Rattle.rs_queue.specs.Changes.{AreOf, AreOfOneJob, ArePlain, place_of_all}
-use Rattle.rs_intake.specs.Done.{Outcome, AreOutcomes, AreDone, AreRefusedBehind, AreReplied, IsOutcome, IsDone, IsPut, AreTold, IsWritten, ReplyValue, Told, has_held, is_held, is_refused, not_refused, refused_reply, refused_in, replies_to, untold}
+use Rattle.rs_line.specs.Done.{Outcome, AreOutcomes, AreDone, AreRefusedBehind, AreReplied, IsOutcome, IsDone, IsPut, AreTold, IsWritten, ReplyValue, Told, has_held, is_held, is_refused, not_refused, refused_reply, refused_in, replies_to, untold}
 use Rattle.rs_queue.specs.Parts.{IsPart}
-use Rattle.rs_intake.specs.Sending.{AreSentTo, AreToPut, ArePut}
-use Rattle.rs_intake.specs.Sweeps.{AreForEntries, IsKeptFrom, IsSweptAtMost, without_sweeps}
+use Rattle.rs_line.specs.Sending.{AreSentTo, AreToPut, ArePut}
+use Rattle.rs_line.specs.Sweeps.{AreForEntries, IsKeptFrom, IsSweptAtMost, without_sweeps}
 use Rattle.rs_queue.proofs.Parts.{all_append, part_front, part_rises}
 use Rattle.rs_intake.proofs.Telling.{told_more, told_none}
 use Rattle.rs_intake.proofs.Sweeps.{entry_rises, adds_kept, held_kept, no_memory_kept, kept_from_entry, kept_from_refused, kept_from_start, released_kept, without_cleaned, without_more}

@@ -1,10 +1,7 @@
-pub mod Ways
-pub mod Opening
-pub mod Ahead
-pub mod Faults
-pub mod Sums
-pub mod Sent
 pub mod Sweeps
-pub mod Done
-pub mod Causes
 pub mod Telling
+pub mod Done
+pub mod Opening
+pub mod Sums
+pub mod Causes
+pub mod Sent

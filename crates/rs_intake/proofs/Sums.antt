@@ -1,13 +1,14 @@
 -- Where as many jobs were taken as sent, the queue holds none.
 use Rattle.std.proofs.Common.{◌≡◌, ◌≢◌, ◌==◌, ℕ, zero, suc, ◌+◌, ◌<◌, ◌≤◌, ◌⊎◌, inl, inr, ⊎_elim, Bool, true, false, cond, List, [], ◌∷◌, ◌++◌, length, filter, All, refl, sym, ap, subst, ◌∙◌, arith, length-append}
-use Rattle.std.proofs.lemmas.List.{append-nil}
+use Rattle.std.proofs.lemmas.Bool.{cases_lt}
+use Rattle.std.proofs.lemmas.List.{append-nil, nil_from_length}
 use Rattle.std.specs.List.{AllByRecursion}
 use Rattle.std.proofs.lemmas.Bool.Decides.{nat_tests}
 use Rattle.rs_message.specs.declared.entry.Entry.{Entry}
 use Rattle.rs_queue.specs.declared.job.Job.{Job}
 use Rattle.rs_queue.specs.declared.job.Job.TheVariants.{Put, End}
 use Rattle.rs_queue.specs.QueueRule.{of_place, entries_in, entries_of, IsOutside, IsPlaced}
-use Rattle.rs_intake.specs.Lines.{Closed}
+use Rattle.rs_queue.specs.Ends.{Closed}
 use Rattle.rs_queue.specs.declared.rule.SentFrom.{SentFrom}
 use Rattle.std.proofs.lemmas.List.Elements.{All-append, All-weaker, filter-append}
 use mathlib.Core.List.{IsPrefix}
@@ -63,15 +64,9 @@ there_once (suc n) q low high = go (q == suc n) refl (λ high. there_once n q lo
     go true is h = let e : q ≡ suc n = grind (arith, nat_tests, is) in let z = none_there n q (λ p. 1) (omega (arith, e)) in omega (arith, z)
     go false is h = let ne : q ≢ suc n = λ e. grind (arith, nat_tests, is, e) in let z = h (omega (arith, high, ne)) in omega (arith, z)
 
-pub compare : (a b : ℕ) → (a < b) ⊎ (b ≤ a)
-compare zero zero = inr (omega arith)
-compare zero (suc b) = inl (omega arith)
-compare (suc a) zero = inr (omega arith)
-compare (suc a) (suc b) = ⊎_elim (λ (t : a < b). inl (omega (arith, t))) (λ (t : b ≤ a). inr (omega (arith, t))) (compare a b)
-
 pub inside : (n q : ℕ) → (IsOutside n q → ⊥) → (0 < q) × (q ≤ n)
 inside n zero h = absurd (h (inl refl))
-inside n (suc q) h = (omega arith, ⊎_elim (λ (t : n < suc q). absurd (h (inr t))) (λ (t : suc q ≤ n). t) (compare n (suc q)))
+inside n (suc q) h = (omega arith, ⊎_elim (λ (t : n < suc q). absurd (h (inr t))) (λ (t : suc q ≤ n). t) (cases_lt n (suc q)))
 
 of_place-tail : (place : ℕ) (x : Entry) (xs : List Entry) → of_place place (x ∷ xs) ≡ [] → of_place place xs ≡ []
 of_place-tail place x xs e = go (x.origin.place == place) e
@@ -150,10 +145,6 @@ weight_sent xs (e ∷ es) all =
     let s = ap length (all_head P e es all) in
     omega (arith, h, s)
 
-pub no_more : {A : Type 0} (xs : List A) → length xs ≡ 0 → xs ≡ []
-no_more [] h = refl
-no_more (x ∷ xs) h = absurd (omega (arith, h))
-
 all_taken : (taken rest : List Entry) → rest ≡ [] → (es : List Closed) → All (λ (e : Closed). e.sent ≡ of_place e.place (taken ++ rest)) es → AreTaken taken es
 all_taken taken rest none [] all = all_none (λ (e : Closed). of_place e.place taken ≡ e.sent)
 all_taken taken rest none (e ∷ es) all =
@@ -173,7 +164,7 @@ settled places taken items ends b once count =
     let sent : weight f ends ≡ sent_in_all ends = weight_sent xs ends b.1 in
     let both : length xs ≡ length taken + length rest = length-append taken rest in
     let none : length rest ≡ 0 = omega (arith, all, each, less, sent, both, count) in
-    all_taken taken rest (no_more rest none) ends b.1
+    all_taken taken rest (nil_from_length rest none) ends b.1
 
 -- what was taken of each place is a prefix of what its line sent
 pub in_order : (places : ℕ) (taken : List Entry) (ends : List Closed) → (0 < length ends → (items : List Job) × BalancesWith places taken items ends) → AreTakenInOrder taken ends

@@ -5,8 +5,8 @@ use Rattle.std.proofs.lemmas.List.{append-nil, get_or-replicate, get_or-set_othe
 use Rattle.std.proofs.lemmas.List.Elements.{filter-append}
 use Rattle.rs_message.specs.declared.entry.Entry.{Entry}
 use Rattle.rs_queue.specs.Changes.{AreOf}
-use Rattle.rs_intake.specs.Done.{AreSent, AreTold, Outcome, ReplyValue, Told, replies_for, replies_to, untold, way_to}
-use Rattle.rs_intake.specs.Sending.{AreSentBehind, AreSentNext, AreSentTo}
+use Rattle.rs_line.specs.Done.{AreSent, AreTold, Outcome, ReplyValue, Told, replies_for, replies_to, untold, way_to}
+use Rattle.rs_line.specs.Sending.{AreSentBehind, AreSentNext, AreSentTo}
 use Rattle.rs_queue.specs.declared.waiting.Gone.{Gone}
 use Rattle.rs_queue.proofs.Queues.{else_is, then_is}
 

@@ -1,12 +1,4 @@
 pub mod Causes
 pub mod Codes
-pub mod Done
 pub mod Law
-pub mod Lines
-pub mod Names
-pub mod Refusals
-pub mod ReplyRule
-pub mod Sending
 pub mod Settling
-pub mod Sweeps
-pub mod Fullness

@@ -5,7 +5,8 @@ use Rattle.rs_message.specs.declared.entry.Entry.{Entry}
 use Rattle.rs_queue.specs.declared.rule.SentFrom.{SentFrom}
 use Rattle.rs_queue.specs.declared.job.Job.{Job}
 use Rattle.rs_queue.specs.QueueRule.{of_place, entries_of, IsOutside, SumsUp}
-use Rattle.rs_intake.specs.Lines.{Closed, Received}
+use Rattle.rs_line.specs.Lines.{Received}
+use Rattle.rs_queue.specs.Ends.{Closed}
 
 -- how many of the ends are of this place
 abbrev pub ends_at : ℕ → List Closed → ℕ

@@ -4,19 +4,17 @@ ghost use Rattle.std.specs.Prelude.{◌≡◌, ◌+◌, ◌<◌, ◌≤◌, [], 
 ghost use Rattle.crossbeam_channel.specs.Claims.{view as known_by};
 ghost use Rattle.crossbeam_channel.specs.Ends.{sends_on};
 ghost use Rattle.rs_message.specs.declared.entry.TheConstants.{MAX_PLACES};
-ghost use Rattle.rs_intake.specs.Names.{IsQueue, IsIn};
-ghost use Rattle.rs_intake.specs.Done.{untold};
-ghost use Rattle.rs_intake.specs.Lines.{new_lines};
+ghost use Rattle.rs_line.specs.Names.{IsQueue, IsIn};
+ghost use Rattle.rs_line.specs.Done.{untold};
+ghost use Rattle.rs_line.specs.Lines.{new_lines};
 
-use crate::fullness::{Fullness, FullnessWriter};
-use crate::intake::Intake;
-use crate::line::{LineSender, SeatLine};
-use crate::name::LineName;
-use crate::reply::{ReplySender, way_back};
 use crate::taken::Taken;
 use crate::ways_back::WaysBack;
 use crate::writer::Queue;
 use crossbeam_channel::{Pass, bounded_with};
+use rs_line::{
+    Fullness, FullnessWriter, Intake, LineName, LineSender, ReplySender, SeatLine, way_back,
+};
 use rs_message::PlaceCount;
 use rs_queue::steps::cut;
 use rs_queue::{Job, JobReceiver, JobSender, PassView, Polls, QueueRule};
@@ -41,7 +39,7 @@ impl Model for BlankQueue {
     ghost use Rattle.crossbeam_channel.specs.Claims.{view as known_by, IsSeatAt};
     ghost use Rattle.crossbeam_channel.specs.Ends.{sends_on, receives_on};
     ghost use Rattle.rs_queue.specs.QueueRule.{taker};
-    ghost use Rattle.rs_intake.specs.Names.{Unnamed, name_of};
+    ghost use Rattle.rs_line.specs.Names.{Unnamed, name_of};
 
     ghost Value = { Unnamed };
 

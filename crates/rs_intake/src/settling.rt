@@ -5,10 +5,9 @@ ghost use Rattle.rs_queue.specs.declared.job.Job.{Job};
 ghost use Rattle.rs_intake.specs.Settling.{ends_at, EachOnce, sent_in_all, AreTaken, AreTakenInOrder, BalancesWith};
 
 use crate::fault::SettleFault;
-use crate::line::LineEnd;
-use crate::name::LineName;
 use crate::taken::Taken;
 use crate::writer::Ended;
+use rs_line::{LineEnd, LineName};
 use std::sync::Wait;
 
 fn count_at<N: LineName>(ends: &Vec<LineEnd<N>>, place: u8) -> usize

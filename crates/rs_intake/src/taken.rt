@@ -5,13 +5,13 @@ ghost use Rattle.crossbeam_channel.specs.Claims.{view as known_by};
 ghost use Rattle.crossbeam_channel.specs.Ends.{sends_on, receives_on};
 ghost use Rattle.rs_store.specs.History.{SerialsRise};
 ghost use Rattle.rs_queue.specs.QueueRule.{AreEnds, IsPlaced, ends_of, entries_in};
-ghost use Rattle.rs_intake.specs.Names.{IsQueue, IsIn};
-ghost use Rattle.rs_intake.specs.Lines.{IsTaker};
+ghost use Rattle.rs_line.specs.Names.{IsQueue, IsIn};
+ghost use Rattle.rs_line.specs.Lines.{IsTaker};
 ghost use Rattle.rs_intake.specs.Settling.{IsBalanced};
 ghost use Rattle.rs_queue.specs.declared.job.Job.{Job};
 
-use crate::name::LineName;
 use crossbeam_channel::Pass;
+use rs_line::LineName;
 use rs_queue::steps::{compare, join, take};
 use rs_queue::{Gone, Job, JobReceiver, JobSender, PassView, Patience};
 use std::marker::{Model, PhantomData};
@@ -28,7 +28,7 @@ pub struct Taken<N: LineName> {
 impl<N: LineName> Model for Taken<N> {
     ghost use Rattle.std.specs.Prelude.{◌≡◌};
     ghost use Rattle.crossbeam_channel.specs.Claims.{view as known_by};
-    ghost use Rattle.rs_intake.specs.Lines.{Received, IsTaker};
+    ghost use Rattle.rs_line.specs.Lines.{Received, IsTaker};
 
     ghost Value = { Received };
 

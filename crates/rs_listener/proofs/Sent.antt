@@ -3,8 +3,8 @@ use denote.Builtin.{u16}
 use denote.Param.Send.{IsSend, recorded_send, sendable, struct_send}
 use denote.Struct.Declared.{shape}
 use Rattle.rs_intake.proofs.blank.BlankQueue.TheSendSync as queue
-use Rattle.rs_intake.proofs.fullness.Fullness.TheSendSync as fullness
-use Rattle.rs_intake.specs.contracts.fullness.Fullness as Fullness
+use Rattle.rs_line.proofs.fullness.Fullness.TheSendSync as fullness
+use Rattle.rs_line.specs.contracts.fullness.Fullness as Fullness
 use Rattle.rs_message.proofs.places.PlaceCount.TheSendSync as count
 use Rattle.rs_sockets.proofs.listener.Listener.TheSendSync as listener
 use Rattle.rs_sockets.specs.contracts.listener.Listener as Listener

@@ -1,6 +1,6 @@
 //! Why no client is served.
 
-use rs_places::StoreFault;
+use rs_turns::StoreFault;
 use std::alloc::AllocError;
 use std::io;
 use std::io::ErrorKind;

@@ -2,10 +2,9 @@
 
 ghost use Rattle.std.specs.Prelude.{◌≡◌, IfOk, length};
 
-use crate::full_log::FullLog;
-use crate::turn::ListenTurn;
 use log::Log;
 use rs_clients::first_number;
+use rs_connections::{FullLog, ListenTurn};
 use rs_message::PlaceCount;
 use rs_sockets::Listener;
 use std::alloc::{AllocError, Global};

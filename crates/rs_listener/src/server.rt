@@ -3,15 +3,16 @@
 ghost use Rattle.std.specs.Prelude.{◌≡◌, ◌+◌, ◌<◌, ◌≤◌, ◌⊎◌, ℕ, List, IfOk};
 ghost use Rattle.rs_clients.specs.Fleet.{IsFleetRun};
 ghost use Rattle.rs_places.specs.Store.{IsStoreRun};
-ghost use Rattle.rs_places.specs.Turns.{Connections};
+ghost use Rattle.rs_turns.specs.Turns.{Connections};
 
 use crate::fault::ListenFault;
-use crate::full_log::FullLog;
 use crate::opening::turns;
 use crate::polling::time_polls;
 use log::{Log, warn};
 use rs_clients::run_fleet;
-use rs_intake::{BlankQueue, Fullness, blank_queue};
+use rs_connections::FullLog;
+use rs_intake::{BlankQueue, blank_queue};
+use rs_line::Fullness;
 use rs_message::PlaceCount;
 use rs_places::run_store;
 use rs_sockets::{Listener, descriptor_limit};

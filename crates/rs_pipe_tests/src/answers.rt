@@ -5,7 +5,7 @@ mod shared;
 use rs_intake::blank_queue;
 use rs_message::{Found, PlaceCount};
 use rs_message_kit::set;
-use rs_program::OwnGate;
+use rs_pipe::OwnGate;
 use rs_session::{Gate, LocalGate};
 use rs_store::{Catalogue, MapCatalogue, TopicLimit};
 use rs_topic::TopicFilter;

@@ -2,7 +2,7 @@
 //! program's store and over a bare gate.
 
 use crate::answers::local_gate;
-use rs_program::OwnGate;
+use rs_pipe::OwnGate;
 use rs_server::{ConnectionId, Counted, Moments, Served, serve};
 use rs_server_kit::{
     FAULTS, FIRST, FIRST_REPLIES, Fault, SECOND, ServeResult, first_written, second_replies,

@@ -1,5 +1,5 @@
-//! Tests of `pipe`, and of its store beside the other gates, by the public calls of `rs_program`. They stand in a crate of their own, so
-//! that they are proved beside those of the command line.
+//! Tests of `pipe`, and of its store beside the other gates, by the public calls of `rs_pipe`. They stand in a crate of their own, so
+//! that `rs_pipe` is not proved a second time with them.
 #![tactic(auto)]
 
 #[cfg(test)]

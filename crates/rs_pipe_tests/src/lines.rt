@@ -1,6 +1,6 @@
 //! Lines of hex digits instead of bytes.
 
-use rs_program::{PipeFault, pipe, serve_bytes};
+use rs_pipe::{PipeFault, pipe, serve_bytes};
 use rs_server::Served;
 use rs_server_kit::REFUSING_GATE;
 use rs_test_kit::{CONNACK, REPLAYED, concat, is_concat, limits};

@@ -1,6 +1,6 @@
 //! One failing read, write or flush of `pipe`, over bytes and over lines of hex digits: the fault names what failed.
 
-use rs_program::{OwnGate, PipeFault, pipe};
+use rs_pipe::{OwnGate, PipeFault, pipe};
 use rs_server::Served;
 use rs_server_kit::FIRST;
 use rs_test_kit::{Behavior, Call, FaultyStream};

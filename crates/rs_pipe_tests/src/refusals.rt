@@ -1,7 +1,7 @@
 //! What a client is answered if the gate gives no receipt for its publication.
 
 use rs_message::SubmitFault;
-use rs_program::pipe;
+use rs_pipe::pipe;
 use rs_server::Served;
 use rs_server_kit::Refusing;
 use rs_test_kit::{CONNACK, CONNECT, concat};

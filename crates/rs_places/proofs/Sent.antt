@@ -2,10 +2,10 @@
 use denote.RattleType.{RattleType}
 use denote.Param.Send.{IsSend, recorded_send, struct_send, view_send}
 use denote.Struct.Declared.{shape}
-use Rattle.rs_intake.proofs.intake.Intake.TheSendSync as intake
-use Rattle.rs_intake.proofs.line.SeatLine.TheSendSync as line
-use Rattle.rs_intake.specs.contracts.intake.Intake as Intake
-use Rattle.rs_intake.specs.declared.name.LineName as LineName
+use Rattle.rs_line.proofs.intake.Intake.TheSendSync as intake
+use Rattle.rs_line.proofs.line.SeatLine.TheSendSync as line
+use Rattle.rs_line.specs.contracts.intake.Intake as Intake
+use Rattle.rs_line.specs.declared.name.LineName as LineName
 use Rattle.rs_version.proofs.Sent.{seat_send}
 use Rattle.rs_version.specs.declared.history.StoreName as StoreName
 use Rattle.std.proofs.Crossing.{Arc-send}

@@ -1,5 +1,2 @@
-pub mod Places
-pub mod Serving
-pub mod Shared
+pub mod Gates
 pub mod Store
-pub mod Turns

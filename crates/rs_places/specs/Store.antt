@@ -1,29 +1,23 @@
 -- A whole run of a store: its places, and the one history that they all saw.
 use Rattle.std.specs.Prelude.{◌≡◌, ℕ, List, [], ◌∷◌, ◌++◌, length, map, Option, MatchOption}
-use Rattle.std.specs.List.{AllByRecursion, AllZip}
-use Rattle.rs_packet.specs.declared.packet.Publish.{Publish}
-use Rattle.rs_packet.specs.declared.reply.Reply.{Reply}
+use Rattle.std.specs.List.{AllZip}
 use Rattle.rs_message.specs.declared.entry.Entry.{Entry}
 use Rattle.rs_store.specs.History.{IsLegal}
 use Rattle.rs_version.specs.Copies.{listed}
-use Rattle.rs_intake.specs.Done.{IsWritten, Told, not_refused}
-use Rattle.rs_intake.specs.Lines.{Closed, Line, new_lines}
+use Rattle.rs_line.specs.Done.{IsWritten, Told, not_refused}
+use Rattle.rs_line.specs.Lines.{Line, new_lines}
+use Rattle.rs_intake.specs.Settling.{AreOfPlaces, AreTaken, EachOnce, sent_in_all}
+use Rattle.rs_line.specs.Sweeps.{without_sweeps}
+use Rattle.rs_queue.specs.Ends.{Closed}
 use Rattle.rs_queue.specs.Parts.{IsPart}
 use Rattle.rs_queue.specs.QueueRule.{of_place}
-use Rattle.rs_intake.specs.Settling.{AreOfPlaces, AreTaken, EachOnce, sent_in_all}
-use Rattle.rs_intake.specs.Sweeps.{without_sweeps}
 use Rattle.rs_session.specs.Gate.{Extends}
-use Rattle.rs_session.specs.Stored.{IsStoredIn, IsToldStored, lists_of, point_after}
-use Rattle.rs_session.specs.Points.{Point}
-use Rattle.rs_session.specs.Run.{Exchange}
-use Rattle.rs_session.specs.Sent.{AreSentBy}
-use Rattle.rs_session.specs.State.{State}
-use Rattle.rs_session.specs.declared.open.Open.{Open}
-use Rattle.rs_session.specs.declared.phase.Phase.TheVariants as phase
-use Rattle.rs_server.specs.Conversation.{AreLeft, assigned_of, start}
-use Rattle.rs_places.specs.Places.{IsPlaceServed, Left, Place, Visit, next_number, places_of}
-use Rattle.rs_places.specs.Shared.{SharedValue, handed_on, operations_of}
-use Rattle.rs_places.specs.Turns.{Connections}
+use Rattle.rs_places.specs.Gates.{handed_on}
+use Rattle.rs_threads.specs.Places.{IsPlaceServed, Left, places_of}
+use Rattle.rs_turns.specs.Shared.{SharedValue}
+use Rattle.rs_turns.specs.Turns.{Connections}
+use Rattle.rs_turns.specs.Visits.{Place}
+use Rattle.rs_turns.specs.Within.{ArePublications, AreWithin}
 
 -- the gates of these seats and lines, which are handed on. What is left of the longer list is left out
 abbrev pub gates_of : List (List Entry) → List Line → List SharedValue
@@ -34,34 +28,6 @@ gates_of (seat ∷ seats) (line ∷ lines) = handed_on seat line ∷ gates_of se
 -- the gates of so many new places, from 1 on. They know nothing, and sent nothing
 abbrev pub new_gates : ℕ → List SharedValue
 new_gates places = map (λ line. handed_on [] line) (new_lines places)
-
--- From this point a connection was served. The list that it began with, and each that it was answered from, is a prefix of this one, in
--- which each retained publication that the client was told is stored stands once.
-pub record IsWithin (list : List Entry) (from : Point State) (visit : Visit) : Type 0 where
-  pub first : Extends list from.seen
-  pub lists : AllByRecursion (λ seen. Extends list seen) (lists_of visit.exchanges)
-  pub stored : (before : List Exchange) (exchange : Exchange) (after : List Exchange) (o : Open) (p : Publish) (answer : Reply)
-      → visit.exchanges ≡ before ++ exchange ∷ after
-      → (point_after from before).state.phase ≡ phase.Open o → IsToldStored o exchange p answer
-      → IsStoredIn (point_after from before).mark exchange p (list ∷ [])
-
--- the same of connections one after the other, numbered from this number on
-abbrev pub AreWithin : List Entry → ℕ → SharedValue → List Visit → Type 0
-AreWithin list number first [] = Unit {0}
-AreWithin list number first (visit ∷ visits) =
-    IsWithin list (start (assigned_of first.mark.place number) first.known first.mark) visit
-    × AreWithin list (next_number number) visit.gate visits
-
--- What these connections send, one after the other: what their exchanges send, and behind that of each connection a tail. It is of
--- changes of publications that the connection's bytes hold behind the last packet that was handled, or of that one too, if it sent
--- nothing and ended the session.
-abbrev pub ArePublications : ℕ → SharedValue → List Visit → List Entry → Type 0
-ArePublications number first [] entries = entries ≡ []
-ArePublications number first (visit ∷ visits) entries =
-    (own : List Entry) × (tail : List Entry) × (rest : List Entry) × (entries ≡ own ++ (tail ++ rest))
-    × AreSentBy (start (assigned_of first.mark.place number) first.known first.mark) visit.exchanges own
-    × AreLeft (start (assigned_of first.mark.place number) first.known first.mark) visit.exchanges visit.planned (operations_of tail)
-    × ArePublications (next_number number) visit.gate visits rest
 
 -- What a place's line sent, over a store with this history, whose writer took these entries.
 pub record IsLineOf (history entries : List Entry) (line : Closed) : Type 0 where

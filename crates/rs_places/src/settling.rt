@@ -7,15 +7,16 @@ ghost use Rattle.rs_intake.specs.Settling.{AreTakenInOrder, EachOnce};
 ghost use Rattle.rs_places.specs.Store.{IsSettled, IsUnsettled};
 ghost use Rattle.rs_version.specs.Writer.{kept_of};
 
-use crate::running::{PlaceEnd, TurnEnd};
 use crate::store::StoreEnd;
-use crate::turn::Turn;
-use rs_intake::{Ended, LineEnd, LineName, settle};
+use rs_intake::{Ended, settle};
+use rs_line::{LineEnd, LineName};
+use rs_threads::PlaceEnd;
+use rs_turns::TurnEnd;
 use rs_version::VersionWriter;
 use std::sync::Wait;
 
 /// Says that what the gate of each turn knew last is a prefix of the list that the writer keeps.
-pub fn cover_all<N: LineName, T: Turn + Drop, R: Wait + Drop>(
+pub fn cover_all<N: LineName, T: Drop, R: Wait + Drop>(
     ends: &Vec<TurnEnd<N, T>>,
     writer: &mut VersionWriter<N, R>,
 )
@@ -33,8 +34,8 @@ pub fn cover_all<N: LineName, T: Turn + Drop, R: Wait + Drop>(
 
 /// The lines of the places, and what else is left of them, in their order. `lines` and `others` are empty and have the capacity for all,
 /// so this takes no memory.
-pub(crate) fn part_ends<N: LineName, T: Turn + Drop>(
-    ends: Vec<PlaceEnd<N, T>>,
+pub(crate) fn part_ends<N: LineName, T: Drop>(
+    ends: Vec<PlaceEnd<N, LineEnd<N>, T>>,
     lines: Vec<LineEnd<N>>,
     others: Vec<TurnEnd<N, T>>,
 ) -> (Vec<LineEnd<N>>, Vec<TurnEnd<N, T>>)
@@ -55,7 +56,7 @@ pub(crate) fn part_ends<N: LineName, T: Turn + Drop>(
 }
 
 /// The turns of the ends, in their order. `turns` is empty and has the capacity for all.
-fn turns_of<N: LineName, T: Turn + Drop>(ends: Vec<TurnEnd<N, T>>, turns: Vec<T>) -> Vec<T>
+fn turns_of<N: LineName, T: Drop>(ends: Vec<TurnEnd<N, T>>, turns: Vec<T>) -> Vec<T>
     requires empty { turns.items ≡ [] }
     requires capacity { length ends.items ≤ vec_capacity turns }
     ensures { result.items ≡ map (λ end. end.turn) ends.items }
@@ -70,7 +71,7 @@ fn turns_of<N: LineName, T: Turn + Drop>(ends: Vec<TurnEnd<N, T>>, turns: Vec<T>
 
 /// Settles a run once its writer and all its turns have ended, in which so many places had threads, and gives what it leaves. `lines` are
 /// the ends of the lines of all places. `turns` is empty and has the capacity for all, so this takes no memory.
-pub fn settle_run<N: LineName, T: Turn + Drop, R: Wait + Drop>(
+pub fn settle_run<N: LineName, T: Drop, R: Wait + Drop>(
     ends: Vec<TurnEnd<N, T>>,
     lines: Vec<LineEnd<N>>,
     threads: usize,

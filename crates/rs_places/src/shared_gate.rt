@@ -1,21 +1,24 @@
 //! A gate over a seat and its line.
 
-ghost use Rattle.std.specs.Prelude.{◌≡◌, ◌<◌, ◌≤◌, ◌⊎◌, ◌∷◌, [], List, false, length, Err, OnOk, Some};
+ghost use Rattle.std.specs.Prelude.{◌≡◌, ◌<◌, ◌≤◌, ◌⊎◌, ◌∷◌, [], List, false, length, refl, Err, OnOk, Some};
 ghost use Rattle.rs_queue.specs.Changes.{AreOfLine};
-ghost use Rattle.rs_intake.specs.Lines.{IsClosed, next_serial};
+ghost use Rattle.rs_line.specs.Lines.{next_serial};
+ghost use Rattle.rs_queue.specs.Ends.{IsClosed};
 ghost use Rattle.rs_message.specs.declared.entry.Entry.{Entry};
 ghost use Rattle.rs_message.specs.declared.entry.TheConstants.{MAX_PLACES};
 ghost use Rattle.rs_message.specs.declared.fault.SubmitFault.TheVariants.{Strange};
 ghost use Rattle.rs_message.specs.Messages.{is_sweep};
-ghost use Rattle.rs_places.specs.Shared.{HandsOn, IsOtherPending, Knows, handed_on, operations_of};
+ghost use Rattle.rs_turns.specs.Shared.{HandsOn, Knows, operations_of};
+ghost use Rattle.rs_places.specs.Gates.{IsOtherPending, handed_on};
 ghost use Rattle.rs_session.specs.Gate.{Grows, Sends, SendsAtMost, Submits, TakesPending, Uses, entry_by};
 ghost use Rattle.rs_store.specs.History.{IsLegal};
 
-use rs_intake::{Intake, LineEnd, LineName, SeatLine};
+use rs_line::{Intake, LineEnd, LineName, SeatLine};
 use rs_message::{Found, Operation, SubmitFault};
 use rs_queue::MAX_CHANGES;
 use rs_session::Gate;
 use rs_topic::TopicFilter;
+use rs_turns::{LineGate, StoreGate};
 use rs_version::{Seat, Told};
 use std::alloc::AllocError;
 use std::marker::Model;
@@ -38,7 +41,8 @@ pub struct SharedGate<N: LineName, R: Wait + Copy> {
 
 impl<N: LineName, R: Wait + Copy> Model for SharedGate<N, R> {
     ghost use Rattle.rs_store.specs.History.{IsLegal};
-    ghost use Rattle.rs_places.specs.Shared.{SharedValue, gate_of};
+    ghost use Rattle.rs_turns.specs.Shared.{SharedValue};
+    ghost use Rattle.rs_places.specs.Gates.{gate_of};
 
     ghost Value = { SharedValue };
 
@@ -49,7 +53,7 @@ impl<N: LineName, R: Wait + Copy> Model for SharedGate<N, R> {
 
 impl<N: LineName, R: Wait + Copy> SharedGate<N, R> {
     /// A gate that knows what the seat knows, and goes on with the line's place and serial, as if the line were handed on
-    /// ([`hand_on`](SharedGate::hand_on)). Any seat of the store will do: a seat has no place. It waits for the writer only if something
+    /// ([`hand_on`](LineGate::hand_on)). Any seat of the store will do: a seat has no place. It waits for the writer only if something
     /// is ahead of the line.
     pub fn new(rt: R, intake: Arc<Intake<N>>, seat: Seat<N>, line: SeatLine<N>) -> SharedGate<N, R>
         ensures gate { result ≡ handed_on seat line }
@@ -68,16 +72,6 @@ impl<N: LineName, R: Wait + Copy> SharedGate<N, R> {
         }
     }
 
-    /// The place, 1 to the number of places.
-    pub fn place(&self) -> u8
-        ensures place { result ≡ self.now.mark.place }
-        ensures some { 0 < result }
-        ensures there { result ≤ N.places }
-        ensures small { result ≤ MAX_PLACES }
-    {
-        self.line.place()
-    }
-
     /// The number of entries of the list that it knows.
     pub fn version(&self) -> u64
         ensures version { result ≡ length self.now.known }
@@ -85,46 +79,11 @@ impl<N: LineName, R: Wait + Copy> SharedGate<N, R> {
     {
         self.seat.version()
     }
-
-    /// A token of the list that the gate knows. By it this list is compared with those that other places know ([`Told::reaches`]).
-    pub fn told(&self) -> Told<N>
-        ensures told { result ≡ self.now.known }
-        ensures legal { IsLegal N.limit self.now.known }
-    {
-        self.seat.told()
-    }
-
-    /// What was sent ahead counts as submitted, as if the gate had done so and dropped the replies, for which it waits. Whoever serves the
-    /// next connection with the gate calls it first.
-    pub fn hand_on(&mut self)
-        ensures known { self.new.known ≡ self.old.known }
-        ensures mark { (tail : List Entry) × HandsOn self.old.mark tail self.new.mark × (operations_of tail ≡ self.old.pending) }
-        ensures pending { self.new.pending ≡ [] }
-    {
-        // If the writer is gone, no reply is left for a later submit.
-        drop(self.line.hand_on(&self.rt));
-    }
-
-    /// Gives the gate up. The line's end keeps what the queue took from the line, what was sent ahead too.
-    pub fn close(self) -> LineEnd<N>
-        ensures place { result.place ≡ self.mark.place }
-        ensures sent { (tail : List Entry) × Sends self.mark.sent tail (Some result.sent) × (operations_of tail ≡ self.pending) }
-        ensures line { AreOfLine result.place result.sent }
-        ensures end { IsClosed result.place result.ends result.gone }
-    {
-        let SharedGate {
-            rt,
-            intake: _intake,
-            seat: _seat,
-            line,
-        } = self;
-        line.close(&rt)
-    }
 }
 
 impl<N: LineName, R: Wait + Copy> Gate for SharedGate<N, R> {
     ghost use Rattle.rs_queue.specs.declared.job.TheConstants.{MAX_CHANGES};
-    ghost use Rattle.rs_places.specs.Shared.{Knows};
+    ghost use Rattle.rs_turns.specs.Shared.{Knows};
 
     ghost stands = { Knows N.limit };
 
@@ -188,5 +147,56 @@ impl<N: LineName, R: Wait + Copy> Gate for SharedGate<N, R> {
             Some(snapshot) => Ok(Some(snapshot.found)),
             None => Ok(None),
         }
+    }
+}
+
+impl<N: LineName, R: Wait + Copy> StoreGate for SharedGate<N, R> {
+    type Name = N;
+
+    ghost shared = { λ gate. gate };
+
+    /// 1 to the number of places.
+    fn place(&self) -> u8
+        ensures place { result ≡ self.now.mark.place }
+        ensures some { 0 < result }
+        ensures there { result ≤ N.places }
+        ensures small { result ≤ MAX_PLACES }
+    {
+        self.line.place()
+    }
+
+    fn told(&self) -> Told<N> {
+        self.seat.told()
+    }
+
+    ghost knows = { λ gate list known. known };
+
+    ghost known = { λ gate list known. known };
+
+    ghost same_mark = { λ gate. refl };
+
+    ghost same_pending = { λ gate. refl };
+
+    ghost same_most = { refl };
+}
+
+impl<N: LineName, R: Wait + Copy> LineGate for SharedGate<N, R> {
+    type End = LineEnd<N>;
+
+    ghost closed = { λ end. end };
+
+    fn hand_on(&mut self) {
+        // If the writer is gone, no reply is left for a later submit.
+        drop(self.line.hand_on(&self.rt));
+    }
+
+    fn close(self) -> LineEnd<N> {
+        let SharedGate {
+            rt,
+            intake: _intake,
+            seat: _seat,
+            line,
+        } = self;
+        line.close(&rt)
     }
 }

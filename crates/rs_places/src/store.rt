@@ -4,12 +4,12 @@ ghost use Rattle.std.specs.Prelude.{◌≡◌, ◌≤◌, IfOk, [], length, map}
 ghost use Rattle.rs_places.specs.Store.{IsStoreRun, gates_of};
 ghost use Rattle.rs_version.specs.Writer.{kept_of};
 
-use crate::fault::StoreFault;
-use crate::running::{PlacesEnd, run_places};
 use crate::settling::{part_ends, settle_run};
 use crate::shared_gate::SharedGate;
-use crate::turn::Turn;
-use rs_intake::{BlankQueue, Ended, Intake, LineName, Queue, SeatLine, run_writer};
+use rs_intake::{BlankQueue, Ended, Queue, run_writer};
+use rs_line::{Intake, LineName, SeatLine};
+use rs_threads::{PlacesEnd, run_places};
+use rs_turns::{StoreFault, Turn};
 use rs_version::{Blank, Seat, VersionWriter};
 use std::alloc::{AllocError, Global};
 use std::marker::Brand;
@@ -60,7 +60,7 @@ pub fn open_gates<N: LineName, H: Wait + Copy>(
 pub struct PutsJobs;
 
 impl<N: LineName, R: Wait + Drop> Promise<Ended<N, R>> for PutsJobs {
-    ghost use Rattle.rs_intake.specs.Done.{IsWritten};
+    ghost use Rattle.rs_line.specs.Done.{IsWritten};
     ghost use Rattle.rs_intake.specs.Settling.{AreOfPlaces};
     ghost use Rattle.rs_version.specs.Writer.{kept_of};
 

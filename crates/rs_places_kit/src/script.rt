@@ -1,12 +1,12 @@
 //! Turns that play connections from memory.
 
 ghost use Rattle.rs_server.specs.Counts.{failures_of, inner_of};
-ghost use Rattle.rs_places.specs.Turns.{TakesBack, none_given};
+ghost use Rattle.rs_turns.specs.Turns.{TakesBack, none_given};
 
-use rs_places::{Connection, Turn};
 use rs_server::{Clock, Counted, ServeFault, Served, Tally};
 use rs_server_kit::ServeResult;
 use rs_test_kit::{Behavior, CONNACK, FaultyStream, is_concat};
+use rs_turns::{Connection, Turn};
 use std::alloc::{AllocError, Global};
 use std::collections::VecDeque;
 use std::io;

@@ -8,10 +8,12 @@ use Rattle.rs_session.specs.Run.{Exchange}
 use Rattle.rs_places.proofs.Whole.{new_gates_length}
 use Rattle.rs_message.specs.declared.entry.Entry.{Entry}
 use Rattle.rs_version.specs.Copies.{listed}
-use Rattle.rs_places.specs.Places.{AreConnectionsServed, Left, Place, Visit, next_number, places_of}
-use Rattle.rs_places.specs.Shared.{SharedValue}
-use Rattle.rs_places.specs.Store.{AreWithin, IsPlaceOf, IsStoreRun, new_gates}
-use Rattle.rs_places.specs.Turns.{AreAll, Connections, Ending, Streams, TookBack}
+use Rattle.rs_turns.specs.Visits.{AreConnectionsServed, Place, Visit, next_number}
+use Rattle.rs_threads.specs.Places.{Left, places_of}
+use Rattle.rs_turns.specs.Shared.{SharedValue}
+use Rattle.rs_turns.specs.Within.{AreWithin}
+use Rattle.rs_places.specs.Store.{IsPlaceOf, IsStoreRun, new_gates}
+use Rattle.rs_turns.specs.Turns.{AreAll, Connections, Ending, Streams, TookBack}
 use Rattle.rs_places_tests.specs.Answered.{AreAnswered, ArePlacesAnswered, EachAnswered, IsPlaceAnswered}
 
 abbrev AllOf : List Entry → List Exchange → Type 0

@@ -1,5 +1,2 @@
-pub mod OwnStores
-pub mod Memory
-pub mod Statuses
-pub mod Piping
 pub mod CommandLine
+pub mod Statuses

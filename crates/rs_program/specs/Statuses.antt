@@ -1,26 +1,10 @@
 -- The faults of the program, and its exit statuses.
 use Rattle.std.specs.Prelude.{ℕ, cond, ltb, Option, Some, None, Result, Ok, Err}
-use Rattle.rs_server.specs.declared.writing.ServeFault.{ServeFault}
-use Rattle.rs_server.specs.declared.writing.ServeFault.TheVariants as serve
-use Rattle.rs_program.specs.declared.piping.PipeFault.{PipeFault}
-use Rattle.rs_program.specs.declared.piping.PipeFault.TheVariants.{Read, Write, NoMemory, NotHex}
+use Rattle.rs_pipe.specs.Faults.{pipe_status}
 use Rattle.rs_program.specs.declared.words.WordsFault.{WordsFault}
 use Rattle.rs_program.specs.declared.words.WordsFault.TheVariants as words
 use Rattle.rs_program.specs.declared.program.RunFault.{RunFault}
 use Rattle.rs_program.specs.declared.program.RunFault.TheVariants as run
-
--- a read that failed for a line that is not hex is told by that line
-abbrev pub pipe_fault : ServeFault → Option ℕ → PipeFault
-pipe_fault serve.Read (Some line) = NotHex line
-pipe_fault serve.Read None = Read
-pipe_fault serve.Write not_hex = Write
-pipe_fault serve.NoMemory not_hex = NoMemory
-
-abbrev pub pipe_status : PipeFault → ℕ
-pipe_status Read = 1
-pipe_status Write = 1
-pipe_status NoMemory = 1
-pipe_status (NotHex line) = 2
 
 abbrev pub words_status : WordsFault → ℕ
 words_status (words.Help text) = 0

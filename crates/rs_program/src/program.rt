@@ -6,10 +6,9 @@ ghost use Rattle.rs_program.specs.Statuses.{fault_status, run_status, server_out
 ghost use Rattle.rs_program.specs.declared.program.RunFault.{RunFault};
 
 use crate::listening::listen;
-use crate::own_store::OwnGate;
-use crate::piping::{PipeFault, pipe};
 use crate::words::{Run, WordsFault, read_words, refused};
 use rs_listener::{ListenFault, Summary};
+use rs_pipe::{OwnGate, PipeFault, pipe};
 use rs_server::Served;
 use std::alloc::Global;
 use std::env;

@@ -1,6 +1,7 @@
 //! Statuses and texts of what ends the program.
 
-use rs_program::{PipeFault, RunFault, WordsFault};
+use rs_pipe::PipeFault;
+use rs_program::{RunFault, WordsFault};
 use rs_test_kit::is_shown;
 use std::alloc::Global;
 use std::test::Fail;

@@ -37,6 +37,11 @@ abbrev pub numbered : ℕ → ℕ → List Operation → List Entry
 numbered place serial [] = []
 numbered place serial (o ∷ os) = entry_at place (serial + 1) o ∷ numbered place (serial + 1) os
 
+-- the entries are of this place, and their serials are those behind this one, one after the other
+abbrev pub AreNext : ℕ → ℕ → List Entry → Type 0
+AreNext place serial [] = Unit {0}
+AreNext place serial (e ∷ es) = (e.origin ≡ record { place = place; serial = serial + 1 }) × AreNext place (serial + 1) es
+
 -- the entries that a line of this place sent: all are of the place, and their serials strictly rise
 pub record AreOfLine (place : ℕ) (sent : List Entry) : Type 0 where
   pub of_place : AreOf place sent

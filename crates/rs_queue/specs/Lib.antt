@@ -1,4 +1,5 @@
 pub mod Changes
+pub mod Ends
 pub mod Law
 pub mod Parts
 pub mod QueueRule

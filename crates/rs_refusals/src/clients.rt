@@ -8,8 +8,9 @@ use crate::groups::{
 };
 use crate::view::View;
 use rs_calls_kit::{Failure, check};
-use rs_clients::{ClientGate, SharedPlaces};
-use rs_intake::{BlankQueue, Ended, LineEnd, LineName, blank_queue, run_writer};
+use rs_client_gate::{ClientGate, SharedPlaces};
+use rs_intake::{BlankQueue, Ended, blank_queue, run_writer};
+use rs_line::{LineEnd, LineName};
 use rs_message::{Operation, PlaceCount, SubmitFault};
 use rs_session::Gate;
 use rs_store::TopicLimit;

@@ -5,7 +5,8 @@ ghost use Rattle.rs_message.specs.Messages.{is_sweep};
 
 use crate::view::View;
 use rs_calls_kit::{Change, Failure, Naming, check, operation};
-use rs_intake::{Ended, LineEnd, LineName, settle};
+use rs_intake::{Ended, settle};
+use rs_line::{LineEnd, LineName};
 use rs_message::Operation;
 use std::alloc::Global;
 use std::sync::Wait;

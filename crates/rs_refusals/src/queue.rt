@@ -7,7 +7,8 @@ use crate::groups::{
 };
 use crate::view::{View, view_of};
 use rs_calls_kit::Failure;
-use rs_intake::{BlankQueue, Ended, Intake, LineName, SeatLine, blank_queue, run_writer};
+use rs_intake::{BlankQueue, Ended, blank_queue, run_writer};
+use rs_line::{Intake, LineName, SeatLine};
 use rs_message::{Operation, PlaceCount, SubmitFault};
 use rs_store::TopicLimit;
 use rs_topic::TopicFilter;

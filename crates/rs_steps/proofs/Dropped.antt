@@ -14,7 +14,7 @@ use Rattle.rs_server.specs.Refusals.{gate_of}
 use Rattle.rs_server.specs.declared.connection.Served.{Served}
 use Rattle.rs_server.specs.declared.counted_gate.CountedGate.{CountedGate}
 use Rattle.rs_server.specs.declared.writing.ServeFault.{ServeFault}
-use Rattle.rs_places.specs.Shared.{HandsOn, Knows, SharedValue}
+use Rattle.rs_turns.specs.Shared.{HandsOn, Knows, SharedValue}
 use Rattle.rs_steps.specs.Steps.{counted_view}
 
 abbrev pub view_of : ℕ → SharedValue → GateView

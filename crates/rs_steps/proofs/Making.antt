@@ -1,8 +1,8 @@
 -- Clients beside what they began with.
 use Rattle.std.proofs.Common.{◌≡◌, ℕ, List, [], ◌∷◌, ◌++◌, map, sym, ap, ◌∙◌, append_assoc}
 use Rattle.std.proofs.lemmas.List.{append-nil, map-append}
-use Rattle.rs_places.specs.Shared.{SharedValue}
-use Rattle.rs_places.specs.Turns.{Connections}
+use Rattle.rs_turns.specs.Shared.{SharedValue}
+use Rattle.rs_turns.specs.Turns.{Connections}
 use Rattle.rs_steps.specs.Served.{client_with}
 
 pub same_client : {T G : Type 0} (connections : T → Connections) (shared : G → SharedValue) (t u : T) (g h : G) (m n : ℕ) → t ≡ u → g ≡ h → m ≡ n

@@ -20,11 +20,11 @@ use Rattle.rs_server.specs.declared.serving.Serving.{Serving}
 use Rattle.rs_server.specs.declared.writing.ServeFault.{ServeFault}
 use Rattle.rs_server.specs.declared.writing.ServeFault.TheVariants.{NoMemory}
 use Rattle.rs_server.proofs.Goings.{none_served}
-use Rattle.rs_places.specs.Places.{AreConnectionsServed, Place, ServedSoFar, ServesOne, Visit, next_number, place_at, transfer_of}
-use Rattle.rs_places.specs.Shared.{Knows, SharedValue}
-use Rattle.rs_places.specs.Turns.{Connections, Ending, GivesNext, Streams, TakesBack, TookBack}
-use Rattle.rs_places.proofs.ServedAt.{served_at}
-use Rattle.rs_places.proofs.Visits.{all_given, served_more, took_more}
+use Rattle.rs_turns.specs.Visits.{AreConnectionsServed, Place, ServedSoFar, ServesOne, Visit, next_number, place_at, transfer_of}
+use Rattle.rs_turns.specs.Shared.{Knows, SharedValue}
+use Rattle.rs_turns.specs.Turns.{Connections, Ending, GivesNext, Streams, TakesBack, TookBack}
+use Rattle.rs_turns.proofs.ServedAt.{served_at}
+use Rattle.rs_turns.proofs.Visits.{all_given, served_more, took_more}
 use Rattle.rs_steps.specs.Served.{Client, IsClientServed}
 use Rattle.rs_steps.specs.Steps.{IsBeingServed, WasRead, WasServed, counted_view}
 use Rattle.rs_steps.proofs.Dropped.{hands_nothing_on, idle, served_idle, view_of}

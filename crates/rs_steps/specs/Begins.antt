@@ -1,6 +1,6 @@
 -- What a client began with.
-use Rattle.rs_places.specs.Shared.{SharedValue}
-use Rattle.rs_places.specs.Turns.{Connections}
+use Rattle.rs_turns.specs.Shared.{SharedValue}
+use Rattle.rs_turns.specs.Turns.{Connections}
 use Rattle.rs_steps.specs.Served.{Client, client_with}
 use Rattle.rs_steps.specs.declared.begun.Begun.{Begun}
 

@@ -1,9 +1,9 @@
 -- A client that was served the connections of its turn.
 use Rattle.std.specs.Prelude.{◌≡◌, ℕ, List, map}
 use Rattle.rs_message.specs.declared.entry.Entry.{Entry}
-use Rattle.rs_places.specs.Places.{AreConnectionsServed, Place, Visit, place_at}
-use Rattle.rs_places.specs.Shared.{SharedValue}
-use Rattle.rs_places.specs.Turns.{AreAll, Connections, TookBack}
+use Rattle.rs_turns.specs.Visits.{AreConnectionsServed, Place, Visit, place_at}
+use Rattle.rs_turns.specs.Shared.{SharedValue}
+use Rattle.rs_turns.specs.Turns.{AreAll, Connections, TookBack}
 
 -- what is left of a client: what contracts see of its turn, and the list that its gate knew last
 pub record ClientLeft : Type 0 where

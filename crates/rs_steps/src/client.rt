@@ -10,13 +10,12 @@ ghost use Rattle.rs_steps.specs.Steps.{WasServed, counted_view};
 ghost use Rattle.rs_steps.specs.Stages.{IsNext, IsReadOrEnded, IsServedOrEnded, begun_of};
 
 use crate::begun::Begun;
-use crate::place_gate::PlaceGate;
 use crate::stages::{
     Connected, DoneClient, EndedClient, FreeClient, ReadClient, ServedClient, Stage,
 };
-use rs_places::{Connection, Turn, TurnEnd};
 use rs_pool::Watch;
 use rs_server::{ConnectionId, Counted, CountedGate, ServeFault, Served, Serving, Tally};
+use rs_turns::{Connection, PlaceGate, Turn, TurnEnd};
 use std::alloc::Global;
 use std::sync::Wait;
 

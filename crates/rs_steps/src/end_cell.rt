@@ -7,11 +7,10 @@ ghost use Rattle.rs_steps.specs.Begins.{client_of};
 ghost use Rattle.rs_steps.specs.Served.{client_with};
 
 use crate::begun::Begun;
-use crate::place_gate::PlaceGate;
 use crate::stages::DoneClient;
 use crossbeam_queue::protocol::{Outcome, Protocol, Split};
 use crossbeam_queue::{Pass, RuledArrayQueue};
-use rs_places::Turn;
+use rs_turns::{PlaceGate, Turn};
 use std::alloc::{AllocError, Global};
 use std::sync::Arc;
 

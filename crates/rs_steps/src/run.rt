@@ -6,12 +6,11 @@ ghost use Rattle.rs_steps.specs.Begins.{client_of};
 ghost use Rattle.rs_steps.specs.Served.{IsTurnServed, client_left, client_with};
 
 use crate::end_cell::{ClientEnd, client_ends};
-use crate::place_gate::PlaceGate;
 use crate::stages::FreeClient;
 use crate::task::Task;
-use rs_intake::LineName;
-use rs_places::{StoreFault, Turn, TurnEnd};
 use rs_pool::{Watch, serve_clients};
+use rs_turns::{PlaceGate, StoreFault, Turn, TurnEnd};
+use rs_version::StoreName;
 use std::alloc::{AllocError, Global};
 use std::sync::Wait;
 use std::thread::{Threads, yield_now};
@@ -29,7 +28,7 @@ pub struct NewClient<T, G> {
 
 /// What is left of all clients.
 #[derive(Drop)]
-pub struct ClientsEnd<N: LineName, T> {
+pub struct ClientsEnd<N: StoreName, T> {
     /// What is left of each, in their order.
     pub clients: Vec<TurnEnd<N, T>>,
     /// How many lanes had a thread for their clients. Those of the others were served by these threads too.

@@ -2,9 +2,8 @@
 //! with.
 
 use crate::begun::Begun;
-use crate::place_gate::PlaceGate;
-use rs_places::{Connection, Turn};
 use rs_server::{Counted, CountedGate, ServeFault, Served, Serving};
+use rs_turns::{Connection, PlaceGate, Turn};
 use rs_version::Told;
 use std::marker::Model;
 
@@ -24,7 +23,7 @@ impl<T: Turn, G: PlaceGate> Model for FreeClient<T, G> {
 
     ghost view = { λ c. c.begun };
 
-    ghost use Rattle.rs_places.specs.Places.{ServedSoFar, place_at};
+    ghost use Rattle.rs_turns.specs.Visits.{ServedSoFar, place_at};
     ghost use Rattle.rs_steps.specs.Begins.{client_of};
 
     ghost invariant = { λ c. ServedSoFar G.Name.limit c.begun.first (client_of T.connections G.shared c.begun).place c.number (place_at (T.connections c.turn) (G.shared c.gate)) };

@@ -4,10 +4,9 @@ ghost use Rattle.std.specs.Prelude.{◌≡◌};
 ghost use Rattle.rs_steps.specs.Stages.{begun_of};
 
 use crate::end_cell::ClientEnd;
-use crate::place_gate::PlaceGate;
 use crate::stages::{FreeClient, Stage};
-use rs_places::Turn;
 use rs_pool::{Client, Watch};
+use rs_turns::{PlaceGate, Turn};
 use std::alloc::Global;
 use std::sync::Wait;
 

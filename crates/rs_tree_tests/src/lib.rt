@@ -1,6 +1,8 @@
-//! Tests of the tree with shared nodes by its public calls, beside a map. They stand in a crate of their own, so that `rs_tree` is not
-//! proved a second time with them.
+//! Tests of the tree with shared nodes by its public calls, beside a map, and of what `rs_store` has besides. They stand in a crate of their
+//! own, so that these are not proved a second time with them.
 #![tactic(auto)]
 
+#[cfg(test)]
+mod stores;
 #[cfg(test)]
 mod trees;

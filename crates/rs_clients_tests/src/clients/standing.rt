@@ -4,15 +4,17 @@ ghost use Rattle.std.specs.Prelude.{◌≡◌, []};
 ghost use Rattle.rs_version.specs.Writer.{kept_of};
 
 use super::memory::{Manner, MemoryWatch};
-use rs_clients::{SharedPlaces, run_clients};
-use rs_intake::{BlankQueue, Ended, LineName, Queue, blank_queue, run_writer, settle};
+use rs_client_gate::SharedPlaces;
+use rs_clients::run_clients;
+use rs_intake::{BlankQueue, Ended, Queue, blank_queue, run_writer, settle};
+use rs_line::LineName;
 use rs_message::PlaceCount;
-use rs_places::Turn;
 use rs_places_kit::{
     Counts, NONE, PLAIN, Played, Row, SUBSCRIBES, Script, as_wanted, comes, later, plain_row,
     put_rows, scripts,
 };
 use rs_test_kit::{CONNACK, CONNECT, REPLAYED, SUBSCRIBED};
+use rs_turns::Turn;
 use rs_version::{Blank, VersionWriter};
 use rs_version_kit::blank_store;
 use std::alloc::Global;

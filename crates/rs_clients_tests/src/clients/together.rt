@@ -3,12 +3,13 @@
 ghost use Rattle.std.specs.Prelude.{◌≡◌, false, IfSome};
 ghost use Rattle.rs_message.specs.Messages.{is_sweep};
 
-use rs_clients::{ClientGate, SharedPlaces};
-use rs_intake::{BlankQueue, LineEnd, LineName, blank_queue, run_writer, run_writer_for, settle};
+use rs_client_gate::{ClientGate, SharedPlaces};
+use rs_intake::{BlankQueue, blank_queue, run_writer, run_writer_for, settle};
+use rs_line::{LineEnd, LineName};
 use rs_message::{Operation, PlaceCount};
 use rs_message_kit::set;
 use rs_session::Gate;
-use rs_steps::PlaceGate;
+use rs_turns::PlaceGate;
 use rs_version::Blank;
 use rs_version_kit::blank_store;
 use std::alloc::Global;

@@ -3,7 +3,8 @@
 ghost use Rattle.std.specs.Prelude.{◌≡◌};
 
 use super::script::{Act, operation_of};
-use rs_intake::{BlankQueue, Fullness, Intake, LineName, SeatLine, blank_queue, run_writer};
+use rs_intake::{BlankQueue, blank_queue, run_writer};
+use rs_line::{Fullness, Intake, LineName, SeatLine};
 use rs_message::PlaceCount;
 use rs_version::Blank;
 use rs_version_kit::blank_store;

@@ -6,10 +6,8 @@ ghost use Rattle.rs_version.specs.Writer.{kept_of};
 
 use super::log::{Log, Outcome, Ran, Totals};
 use super::script::{Act, Script, operation_of};
-use rs_intake::{
-    BlankQueue, Ended, Intake, LineEnd, LineName, Queue, SeatLine, blank_queue, run_writer,
-    run_writer_for, settle,
-};
+use rs_intake::{BlankQueue, Ended, Queue, blank_queue, run_writer, run_writer_for, settle};
+use rs_line::{Intake, LineEnd, LineName, SeatLine};
 use rs_message::{Operation, PlaceCount};
 use rs_version::{Blank, Receipt, Seat, VersionWriter};
 use rs_version_kit::{blank_store, read_all};

@@ -3,7 +3,7 @@
 ghost use Rattle.std.specs.Prelude.{◌≡◌, false, IfSome};
 ghost use Rattle.rs_message.specs.Messages.{is_sweep};
 
-use rs_intake::{LineName, WriterReply, read_reply};
+use rs_line::{LineName, WriterReply, read_reply};
 use rs_message::{Entry, Origin, PlaceCount};
 use rs_message_kit::set;
 use rs_version::{Blank, PutFault};

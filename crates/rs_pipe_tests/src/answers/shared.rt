@@ -4,9 +4,11 @@ ghost use Rattle.std.specs.Prelude.{◌≡◌, []};
 ghost use Rattle.rs_version.specs.Writer.{kept_of};
 
 use super::{answers, answers_within, takes_and_answers};
-use rs_intake::{BlankQueue, Ended, LineName, Queue, run_writer, settle};
+use rs_intake::{BlankQueue, Ended, Queue, run_writer, settle};
+use rs_line::LineName;
 use rs_places::{SharedGate, open_gates};
 use rs_topic::TopicFilter;
+use rs_turns::{LineGate, StoreGate};
 use rs_version::{Blank, Told, VersionWriter};
 use std::alloc::Global;
 use std::process::Abort;

@@ -2,15 +2,18 @@
 
 ghost use Rattle.std.specs.Prelude.{◌≡◌};
 
-use rs_intake::{BlankQueue, LineName, Queue, blank_queue};
+use rs_intake::{BlankQueue, Queue, blank_queue};
+use rs_line::{LineEnd, LineName};
 use rs_message::PlaceCount;
-use rs_places::{PlaceEnd, Turn, open_gates, run_places};
+use rs_places::open_gates;
 use rs_places_kit::{
     CLOSED, Counts, PUBLISHES, SUBSCRIBES, Script, comes, ending, later, plain_row, put_rows,
     scripts,
 };
 use rs_server::Served;
 use rs_test_kit::SUBSCRIBED;
+use rs_threads::{PlaceEnd, run_places};
+use rs_turns::Turn;
 use rs_version::{Blank, VersionWriter};
 use rs_version_kit::blank_store;
 use std::alloc::Global;
@@ -45,7 +48,7 @@ fn end_queue<N: LineName, R: Wait + Copy>(
 }
 
 /// How many jobs of these places the queue took.
-fn sent_by<N: LineName, T>(ends: &[PlaceEnd<N, T>]) -> u64 {
+fn sent_by<N: LineName, T>(ends: &[PlaceEnd<N, LineEnd<N>, T>]) -> u64 {
     let mut sent = 0u64;
     for end in ends {
         sent = sent.saturating_add(end.line.sent());

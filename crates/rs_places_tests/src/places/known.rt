@@ -2,15 +2,16 @@
 
 ghost use Rattle.std.specs.Prelude.{◌≡◌, All, IfOk, is_some, length, map, true};
 ghost use Rattle.rs_server.specs.Counts.{failures_of, inner_of};
-ghost use Rattle.rs_places.specs.Turns.{TakesBack};
+ghost use Rattle.rs_turns.specs.Turns.{TakesBack};
 ghost use Rattle.rs_places_tests.specs.Answered.{AreAnswered};
 
 use rs_intake::{BlankQueue, blank_queue};
 use rs_message::PlaceCount;
-use rs_places::{Connection, StoreEnd, StoreFault, Turn, run_store};
+use rs_places::{StoreEnd, run_store};
 use rs_places_kit::{NONE, PUBLISHES, SUBSCRIBES};
 use rs_server::{Clock, Counted, Moments, Refusals, ServeFault, Served, Tally};
 use rs_test_kit::{CONNACK, CONNECT, REPLAYED, SUBSCRIBED, concat, is_concat};
+use rs_turns::{Connection, StoreFault, Turn};
 use rs_version::Blank;
 use rs_version_kit::blank_store;
 use std::alloc::{AllocError, Global};

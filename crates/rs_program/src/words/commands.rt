@@ -5,10 +5,10 @@ ghost use Rattle.clap.specs.Words.{app_of, rule_of};
 ghost use Rattle.clap.specs.declared.builder.command.Command.TheViews.{out-Command as fields_of};
 ghost use Rattle.rs_program.specs.CommandLine.{address_option, clients_option, connections_option, endless_option, idle_option, listen_words, log_option, number_option, pipe_words, places_option, rstored_words, topics_option};
 
-use crate::own_store::MAX_OWN_TOPICS;
 use clap::builder::ValueParser;
 use clap::{Arg, ArgAction, Command};
 use rs_message::MAX_PLACES;
+use rs_pipe::MAX_OWN_TOPICS;
 use rs_store::MAX_TOPICS;
 use std::alloc::{AllocError, Global};
 

@@ -1,6 +1,6 @@
 use Rattle.std.proofs.Common.{◌≡◌, ◌+◌, [], sym, ◌∙◌, ap, length, arith}
-use Rattle.rs_intake.proofs.Sums.{no_more}
-use Rattle.rs_places.proofs.Starting.{length_more}
+use Rattle.std.proofs.lemmas.List.{nil_from_length}
+use Rattle.rs_turns.proofs.Each.{length_more}
 use Rattle.rs_clients.proofs.Served.{next_client, no_client}
 use Rattle.rs_clients.proofs.fleet.make_clients.Goals as goal
 
@@ -17,5 +17,5 @@ loop-turn-preserved g c =
 
 pub returns : goal.returns
 returns g c =
-    let none : c.loop-turn.turn-iterator.rest.items ≡ [] = no_more _ (sym c.loop-turn.turn-iterator.rest.ok.0 ∙ c.in-None.ensures.steps.0) in
+    let none : c.loop-turn.turn-iterator.rest.items ≡ [] = nil_from_length _ (sym c.loop-turn.turn-iterator.rest.ok.0 ∙ c.in-None.ensures.steps.0) in
     λ connections. no_client _ connections _ _ _ _ _ (c.loop-turn.invariant.placed connections) none

@@ -1,6 +1,6 @@
 use Rattle.std.specs.Arc.{arc_value}
 use Rattle.std.specs.Prelude.{◌≡◌, ◌+◌, ◌≤◌, ◌++◌, map, length, vec_capacity}
-use Rattle.rs_places.specs.Turns.{Connections}
+use Rattle.rs_turns.specs.Turns.{Connections}
 use Rattle.rs_steps.specs.Served.{client_with}
 use Rattle.rs_clients.specs.Fleet.{clients_of}
 use Rattle.rs_clients.proofs.fleet.make_clients.Given as goal

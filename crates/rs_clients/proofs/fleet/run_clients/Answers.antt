@@ -1,11 +1,11 @@
 use denote.Exit.{no}
 use denote.Param.Send.{arg_send, param_send}
 use denote.Param.{copied, param}
-use Rattle.std.proofs.Common.{◌≡◌, List, map, ap, subst, ◌∙◌, length, arith}
+use Rattle.std.proofs.Common.{List, map, ap, subst, ◌∙◌, length, arith}
 use Rattle.std.specs.List.{AllZip}
 use Rattle.rs_steps.specs.Served.{Client, IsTurnServed, client_left}
 use Rattle.rs_clients.specs.Fleet.{clients_of}
-use Rattle.rs_clients.proofs.Sent.{client_gate_send}
+use Rattle.rs_client_gate.proofs.Sent.{client_gate_send}
 use Rattle.rs_clients.proofs.fleet.run_clients.Goals as goal
 
 pub close-requires-clause-empty : goal.close-requires-clause-empty

@@ -1,7 +1,7 @@
 use Rattle.std.proofs.Common.{◌≡◌, ℕ, length, sym, ap, subst, ◌∙◌, arith}
 use Rattle.std.specs.Prelude.{MatchOption}
-use Rattle.rs_intake.specs.Done.{IsWritten}
-use Rattle.rs_intake.specs.Lines.{new_lines}
+use Rattle.rs_line.specs.Done.{IsWritten}
+use Rattle.rs_line.specs.Lines.{new_lines}
 use Rattle.rs_intake.specs.Settling.{AreOfPlaces, EachOnce}
 use Rattle.rs_version.specs.Writer.{kept_of}
 use Rattle.rs_places.specs.Store.{IsSettled, IsUnsettled}

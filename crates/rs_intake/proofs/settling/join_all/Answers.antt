@@ -1,9 +1,9 @@
 use Rattle.std.proofs.Common.{◌≡◌, ◌<◌, ◌∷◌, ◌++◌, [], List, length, sym, ap, subst, ◌∙◌, append_assoc}
-use Rattle.std.proofs.lemmas.List.{append-nil}
+use Rattle.std.proofs.lemmas.List.{append-nil, nil_from_length}
 use Rattle.rs_queue.specs.declared.rule.SentFrom.{SentFrom}
-use Rattle.rs_intake.specs.Lines.{Closed}
+use Rattle.rs_queue.specs.Ends.{Closed}
 use Rattle.rs_intake.specs.Settling.{Covers}
-use Rattle.rs_intake.proofs.Sums.{covers_more, no_more}
+use Rattle.rs_intake.proofs.Sums.{covers_more}
 use Rattle.rs_intake.proofs.settling.join_all.Goals as goal
 
 pub loop-end-preserved : goal.loop-end-preserved
@@ -25,7 +25,7 @@ loop-end-preserved g c =
 pub returns-clause-balance : goal.returns-clause-balance
 returns-clause-balance g c =
     let i = c.loop-end.invariant in
-    let none : c.loop-end.end-iterator.rest.items ≡ [] = no_more _ (sym c.loop-end.end-iterator.rest.ok.0 ∙ c.in-None.ensures.steps.0) in
+    let none : c.loop-end.end-iterator.rest.items ≡ [] = nil_from_length _ (sym c.loop-end.end-iterator.rest.ok.0 ∙ c.in-None.ensures.steps.0) in
     let all : c.loop-end.yielded ≡ c.args.ends.items = sym (append-nil c.loop-end.yielded) ∙ (ap (λ l. c.loop-end.yielded ++ l) (sym none) ∙ i.3) in
     (λ some.
     let b = i.2 (let P : List Closed → Type 0 = λ l. 0 < length l in subst P (sym all) some) in

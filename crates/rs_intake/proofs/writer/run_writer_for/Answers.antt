@@ -9,7 +9,7 @@ use Rattle.rs_intake.specs.declared.cause.Cause.TheVariants.{AllEnded, MostTaken
 use Rattle.rs_intake.proofs.Done.{IsUnderWay, none_taken, one_more, written_same}
 use Rattle.rs_intake.proofs.Causes.{all_ended, cause_same, placed_first}
 use Rattle.rs_intake.specs.Settling.{AreOfPlaces}
-use Rattle.rs_intake.specs.Sweeps.{without_sweeps}
+use Rattle.rs_line.specs.Sweeps.{without_sweeps}
 use Rattle.rs_intake.proofs.Sums.{placed_more}
 use Rattle.rs_intake.proofs.Sweeps.{are_for_same, part_same, retried_kept}
 use Rattle.rs_intake.proofs.writer.run_writer_for.Given as given

@@ -1,7 +1,7 @@
 use Rattle.std.proofs.Common.{◌≡◌, ◌+◌, ◌<◌, length}
 use Rattle.crossbeam_channel.specs.Ends.{receives_on}
 use Rattle.rs_version.specs.Writer.{kept_of}
-use Rattle.rs_intake.specs.Names.{IsQueue}
+use Rattle.rs_line.specs.Names.{IsQueue}
 use Rattle.rs_intake.specs.Settling.{AreOfPlaces}
 use Rattle.rs_intake.specs.declared.cause.Cause.TheVariants.{MostTaken}
 use Rattle.rs_intake.proofs.Done.{IsUnderWay}

@@ -1,6 +1,6 @@
 use Rattle.std.proofs.Common.{◌≡◌, [], sym, ◌∙◌, ap, length, arith}
-use Rattle.rs_intake.proofs.Sums.{no_more}
-use Rattle.rs_places.proofs.Starting.{length_more}
+use Rattle.std.proofs.lemmas.List.{nil_from_length}
+use Rattle.rs_turns.proofs.Each.{length_more}
 use Rattle.rs_steps.proofs.Making.{made_all, made_more}
 use Rattle.rs_steps.proofs.run.make_tasks.Goals as goal
 
@@ -16,5 +16,5 @@ loop-client-preserved g c =
 
 pub returns : goal.returns
 returns g c =
-    let none : c.loop-client.client-iterator.rest.items ≡ [] = no_more _ (sym c.loop-client.client-iterator.rest.ok.0 ∙ c.in-None.ensures.steps.0) in
+    let none : c.loop-client.client-iterator.rest.items ≡ [] = nil_from_length _ (sym c.loop-client.client-iterator.rest.ok.0 ∙ c.in-None.ensures.steps.0) in
     made_all _ _ _ _ _ c.loop-client.invariant.made none

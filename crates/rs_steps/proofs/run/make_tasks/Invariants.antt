@@ -5,9 +5,9 @@ use Rattle.rs_steps.proofs.run.make_tasks.Given as goal
 
 abbrev pub invariant-loop-client : goal.invariant-loop-client
 invariant-loop-client g l = record {
-  made : map (λ end. client_of g.T.Turn.connections g.G.PlaceGate.shared end.begun) l.ends.items
-      ++ map (λ client. client_with (g.T.Turn.connections client.turn) (g.G.PlaceGate.shared client.gate) client.first) l.client-iterator.rest.items
-      ≡ map (λ client. client_with (g.T.Turn.connections client.turn) (g.G.PlaceGate.shared client.gate) client.first) l.fn.clients.items;
+  made : map (λ end. client_of g.T.Turn.connections g.G.StoreGate.shared end.begun) l.ends.items
+      ++ map (λ client. client_with (g.T.Turn.connections client.turn) (g.G.StoreGate.shared client.gate) client.first) l.client-iterator.rest.items
+      ≡ map (λ client. client_with (g.T.Turn.connections client.turn) (g.G.StoreGate.shared client.gate) client.first) l.fn.clients.items;
   fits : length l.tasks.items + length l.client-iterator.rest.items ≤ vec_capacity l.tasks;
   fits_too : length l.ends.items + length l.client-iterator.rest.items ≤ vec_capacity l.ends;
 }

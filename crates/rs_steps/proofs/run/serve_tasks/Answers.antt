@@ -9,4 +9,4 @@ serve_clients-requires-send-C g c κs within =
     let b = c.type_bounds in
     param_send 0 _
     (arg_send _ no _ (task_send (param 0 g.row.T) (param 1 g.row.G) (param 4 g.row.T-In) (param 5 g.row.T-Out) (param 6 g.row.T-Time) b.send-T b.send-G b.send-T-In b.send-T-Out b.send-T-Time (param 7 g.row.G-Name)
-    g.T.Turn g.T.In.Read g.T.Out.Write g.T.Time.Clock g.G.PlaceGate g.G.Gate g.G.Name.LineName g.G.Name.StoreName))
+    g.T.Turn g.T.In.Read g.T.Out.Write g.T.Time.Clock g.G.PlaceGate g.G.StoreGate g.G.Gate g.G.Name.StoreName))

@@ -1,6 +1,6 @@
 use Rattle.std.proofs.Common.{◌≡◌, [], length, sym, ap, ◌∙◌, arith}
-use Rattle.rs_intake.proofs.Sums.{no_more}
-use Rattle.rs_places.proofs.Starting.{each_of_both, each_of_whole, first_of_all, length_more}
+use Rattle.std.proofs.lemmas.List.{nil_from_length}
+use Rattle.rs_turns.proofs.Each.{each_of_both, each_of_whole, first_of_all, length_more}
 use Rattle.rs_steps.proofs.run.take_ends.Goals as goal
 
 pub push_reserved-requires : goal.push_reserved-requires
@@ -19,5 +19,5 @@ loop-coming-preserved g c =
 pub returns : goal.returns
 returns g c =
     let invariant = c.loop-coming.invariant in
-    let none : c.loop-coming.coming-iterator.rest.items ≡ [] = no_more _ (sym c.loop-coming.coming-iterator.rest.ok.0 ∙ c.in-None.ensures.steps.0) in
+    let none : c.loop-coming.coming-iterator.rest.items ≡ [] = nil_from_length _ (sym c.loop-coming.coming-iterator.rest.ok.0 ∙ c.in-None.ensures.steps.0) in
     each_of_whole _ _ _ _ _ _ invariant.0 invariant.1 none

@@ -2,8 +2,8 @@ use denote.Builtin.{u8}
 use denote.Exit.{no}
 use denote.Param.{param, copied}
 use denote.Param.Send.{IsSend, arg_send, param_send, sendable}
-use Rattle.rs_clients.proofs.Sent.{client_gate_send}
-use Rattle.rs_clients.specs.contracts.client_gate.ClientGate as ClientGate
+use Rattle.rs_client_gate.proofs.Sent.{client_gate_send}
+use Rattle.rs_client_gate.specs.contracts.client_gate.ClientGate as ClientGate
 use Rattle.rs_intake.proofs.Sent.{ended_send}
 use Rattle.rs_intake.proofs.writer.Queue.TheSendSync as queue
 use Rattle.rs_version.proofs.Sent.{parts_send-3, writer_send}

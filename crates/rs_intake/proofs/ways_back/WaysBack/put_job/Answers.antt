@@ -2,8 +2,8 @@ use Rattle.std.proofs.Common.{rules, ◌≡◌, ℕ, ◌-◌, ◌<◌, List, len
 use Rattle.std.proofs.lemmas.List.{get_or_read}
 use Rattle.rs_message.specs.declared.entry.Entry.{Entry}
 use Rattle.rs_queue.specs.Changes.{place_of_all}
-use Rattle.rs_intake.specs.Done.{AreReplied, Told, untold, way_to}
-use Rattle.rs_intake.specs.Sending.{AreSentNext}
+use Rattle.rs_line.specs.Done.{AreReplied, Told, untold, way_to}
+use Rattle.rs_line.specs.Sending.{AreSentNext}
 use Rattle.rs_intake.proofs.ways_back.WaysBack.put_job.Goals as goal
 
 pub returns : goal.returns

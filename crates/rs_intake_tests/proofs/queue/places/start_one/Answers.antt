@@ -1,5 +1,5 @@
 use denote.Param.{param}
-use Rattle.rs_intake.proofs.line.SeatLine.TheSendSync as line
+use Rattle.rs_line.proofs.line.SeatLine.TheSendSync as line
 use Rattle.rs_version.proofs.Sent.{parts_send-4, seat_send}
 use Rattle.rs_intake_tests.proofs.queue.places.Task.TheSendSync as task
 use Rattle.rs_intake_tests.proofs.queue.places.start_one.Goals as goal

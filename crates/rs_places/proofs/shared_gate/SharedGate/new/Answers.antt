@@ -1,4 +1,4 @@
-use Rattle.rs_places.proofs.Receipts.{handed_on_is}
+use Rattle.rs_places.proofs.Submitting.{handed_on_is}
 use Rattle.rs_places.proofs.shared_gate.SharedGate.new.Goals as goal
 
 pub returns-clause-gate : goal.returns-clause-gate

@@ -1,6 +1,6 @@
 use Rattle.std.proofs.Common.{◌≡◌, ◌⊎◌, [], refl, sym, ap, subst, ◌∙◌, append-nil}
-use Rattle.rs_places.specs.Shared.{SharedValue, operations_of}
-use Rattle.rs_places.proofs.Receipts.{announces, same_mark}
+use Rattle.rs_turns.specs.Shared.{SharedValue, operations_of}
+use Rattle.rs_places.proofs.Submitting.{announces, same_mark}
 use Rattle.rs_places.proofs.shared_gate.SharedGateGate.expect.Goals as goal
 
 pub returns-clause-list : goal.returns-clause-list

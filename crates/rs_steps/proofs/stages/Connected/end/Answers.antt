@@ -5,4 +5,4 @@ use Rattle.rs_steps.proofs.stages.Connected.end.Goals as goal
 
 pub invariant_of-result : goal.invariant_of-result
 invariant_of-result g c =
-    served_by _ _ (counted_view g.G.Gate.stands g.G.Gate.mark g.G.Gate.pending) (client_of g.T.Turn.connections g.G.PlaceGate.shared c.args.self.begun) c.args.self.number _ _ c.into_parts-gate.result.0 _ _ _ _ c.requires c.into_parts-gate.ensures
+    served_by _ _ (counted_view g.G.Gate.stands g.G.Gate.mark g.G.Gate.pending) (client_of g.T.Turn.connections g.G.StoreGate.shared c.args.self.begun) c.args.self.number _ _ c.into_parts-gate.result.0 _ _ _ _ c.requires c.into_parts-gate.ensures

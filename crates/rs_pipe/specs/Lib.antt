@@ -1,0 +1,4 @@
+pub mod Faults
+pub mod Memory
+pub mod OwnStores
+pub mod Piping

@@ -1,0 +1,4 @@
+pub mod Limits
+pub mod Replaying
+pub mod Keeping
+pub mod Sending

@@ -1,0 +1,5 @@
+pub mod Serving
+pub mod Shared
+pub mod Turns
+pub mod Visits
+pub mod Within
