@@ -2,7 +2,7 @@
 use Rattle.rs_bucket.proofs.Spots.{Spots, Path}
 use Rattle.std.proofs.Common.{◌≡◌, ℕ, Bool, true, false, not, ◌&&◌, List, [], ◌∷◌, refl, sym, ◌∙◌, Option, Some, None}
 use Rattle.std.specs.Str.{bytes_eq}
-use Rattle.rs_packet.specs.declared.found.Found.{Found}
+use Rattle.rs_message.specs.declared.found.Found.{Found}
 use Rattle.rs_topic.specs.Topics.{hash, plus}
 use Rattle.rs_topic.specs.Matching.{fits, is_wild, begins_with_dollar}
 use Rattle.rs_message.specs.Messages.{is_expired}

@@ -10,7 +10,7 @@ use Rattle.std.specs.BTreeMap.{is_at}
 use Rattle.std.specs.Cmp.Lexicographic.{bytes_decides}
 use Rattle.std.specs.declared.cmp.Ordering.{Ordering}
 use Rattle.std.specs.declared.cmp.Ordering.TheVariants.{Less, Equal, Greater}
-use Rattle.rs_packet.specs.declared.found.Found.{Found}
+use Rattle.rs_message.specs.declared.found.Found.{Found}
 use Rattle.rs_topic.specs.Order.{path_cmp}
 use Rattle.rs_bucket.specs.Chains.{behind, under_all}
 use Rattle.rs_bucket.specs.Spots.{IsFull, is_there, under}

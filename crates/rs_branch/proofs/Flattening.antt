@@ -5,7 +5,7 @@ use Rattle.std.specs.declared.cmp.Ordering.TheVariants.{Less}
 use Rattle.rs_branch.specs.Chunks.{IsChunk, IsUpTo, parts}
 use Rattle.rs_branch.specs.Spots.{own}
 use Rattle.rs_branch.specs.Values.{ChildValue}
-use Rattle.rs_packet.specs.declared.found.Found.{Found}
+use Rattle.rs_message.specs.declared.found.Found.{Found}
 use Rattle.rs_branch.proofs.Dividing.{up_to_both, up_to_wider}
 use Rattle.rs_branch.proofs.Leaving.{parts_push, take_whole, up_to_at}
 use Rattle.rs_branch.proofs.Chunks.{level_not}

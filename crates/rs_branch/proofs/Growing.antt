@@ -6,7 +6,7 @@ use Rattle.std.specs.Ordering.{match_ordering}
 use Rattle.std.specs.BTreeMap.{insert_entry}
 use Rattle.std.specs.declared.cmp.Ordering.{Ordering}
 use Rattle.std.specs.declared.cmp.Ordering.TheVariants.{Less, Equal, Greater}
-use Rattle.rs_packet.specs.declared.found.Found.{Found}
+use Rattle.rs_message.specs.declared.found.Found.{Found}
 use Rattle.rs_topic.specs.Order.{path_cmp}
 use Rattle.rs_bucket.specs.Spots.{IsFull, is_there, under}
 use Rattle.rs_branch.specs.Spots.{own}

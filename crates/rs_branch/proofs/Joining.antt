@@ -1,7 +1,7 @@
 -- A message whose path is the chain above it.
 use Rattle.std.proofs.Common.{◌≡◌, ℕ, [], ◌∷◌, ◌++◌, refl, sym, ap, ◌∙◌, Some, append-nil}
 use Rattle.rs_bucket.specs.Chains.{under_all, behind}
-use Rattle.rs_packet.specs.declared.found.Found.{Found}
+use Rattle.rs_message.specs.declared.found.Found.{Found}
 use Rattle.rs_topic.specs.Rests.{levels_from}
 use Rattle.rs_bucket.specs.Spots.{spot_of, under}
 use Rattle.rs_bucket.proofs.Spots.{Spots, Path}

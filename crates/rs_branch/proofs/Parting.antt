@@ -1,7 +1,7 @@
 -- A stem that is made of the messages of a bucket, one after the other.
 use Rattle.std.proofs.Common.{◌≡◌, ℕ, ◌+◌, ◌<◌, List, [], ◌∷◌, ◌++◌, length, get_or, drop, refl, sym, ap, ◌∙◌, Some}
 use Rattle.std.specs.BTreeMap.{insert_entry}
-use Rattle.rs_packet.specs.declared.found.Found.{Found}
+use Rattle.rs_message.specs.declared.found.Found.{Found}
 use Rattle.rs_topic.specs.Order.{path_cmp}
 use Rattle.rs_topic.specs.Rests.{levels_from}
 use Rattle.rs_topic.specs.TopicOrder.{path_total}

@@ -7,14 +7,14 @@ use Rattle.std.proofs.Crossing as std
 use Rattle.std.specs.contracts.alloc.Global as Global
 use Rattle.std.specs.contracts.impls.GlobalAllocator.TheImpl.{ghosts}
 use Rattle.std.specs.contracts.vec.Vec as Vec
-use Rattle.rs_packet.proofs.found.Found.TheSendSync as message
+use Rattle.rs_message.proofs.found.Found.TheSendSync as message
 use Rattle.rs_bucket.proofs.label.Label.TheSendSync as label
 use Rattle.rs_bucket.proofs.bucket.Bucket.TheSendSync as bucket
 use Rattle.rs_branch.proofs.branch.Branch.TheLaws.TheKnot as knot
 use Rattle.rs_branch.specs.contracts.branch.Branch as Branch
 use Rattle.rs_branch.specs.contracts.branch.Child as Child
 use Rattle.rs_branch.specs.contracts.branch.remains.Remains as Remains
-use Rattle.rs_packet.specs.contracts.found.Found as Found
+use Rattle.rs_message.specs.contracts.found.Found as Found
 
 chain_send : IsSend (Vec.the_row u8 Global.the_row ghosts)
 chain_send = std.Vec-send u8 (search sendable)

@@ -1,6 +1,6 @@
 -- What a filter chooses of the whole tree's messages.
 use Rattle.std.specs.Prelude.{ℕ, Bool, false, ◌&&◌, not, List, [], ◌∷◌}
-use Rattle.rs_packet.specs.declared.found.Found.{Found}
+use Rattle.rs_message.specs.declared.found.Found.{Found}
 use Rattle.rs_topic.specs.Matching.{fits, is_wild, begins_with_dollar}
 use Rattle.rs_bucket.specs.Chosen.{chosen_by}
 use Rattle.rs_bucket.specs.Spots.{Spot}

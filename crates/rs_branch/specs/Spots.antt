@@ -1,7 +1,7 @@
 -- What a branch holds of its own, and messages without their paths.
 use Rattle.std.specs.Prelude.{ℕ, List, [], ◌∷◌, Option, Some, None, map}
 use Rattle.rs_message.specs.Values.{MessageValue}
-use Rattle.rs_packet.specs.declared.found.Found.{Found}
+use Rattle.rs_message.specs.declared.found.Found.{Found}
 use Rattle.rs_bucket.specs.Spots.{Spot}
 
 -- the message of a node itself, with its path there

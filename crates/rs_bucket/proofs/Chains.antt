@@ -8,7 +8,7 @@ use Rattle.rs_topic.specs.Topics.{levels, slash, is_end}
 use Rattle.rs_topic.proofs.LevelLemmas.{some_level}
 use Rattle.rs_topic.specs.Rests.{levels_from}
 use Rattle.rs_topic.proofs.Rests.{from_within}
-use Rattle.rs_packet.specs.declared.found.Found.{Found}
+use Rattle.rs_message.specs.declared.found.Found.{Found}
 use Rattle.rs_bucket.specs.Chains.{behind, under_all}
 use Rattle.rs_bucket.specs.Spots.{under}
 use Rattle.rs_bucket.proofs.Spots.{Path}

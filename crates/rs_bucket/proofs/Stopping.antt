@@ -1,6 +1,6 @@
 -- What an answer that is given up would have become: more than there is room for.
 use Rattle.std.proofs.Common.{◌≡◌, ℕ, List, ◌++◌, subst, arith, length-append}
-use Rattle.rs_packet.specs.declared.found.Found.{Found}
+use Rattle.rs_message.specs.declared.found.Found.{Found}
 use Rattle.rs_store.specs.declared.answer.Stop.{Stop}
 use Rattle.rs_store.specs.declared.answer.Stop.TheVariants.{NoRoom, NoMemory}
 use Rattle.rs_store.specs.Room.{IsStop}

@@ -1,6 +1,6 @@
 -- What a call appends to an answer.
 use Rattle.std.specs.Prelude.{◌≡◌, List, ◌++◌, Result, Ok, Err}
-use Rattle.rs_packet.specs.declared.found.Found.{Found}
+use Rattle.rs_message.specs.declared.found.Found.{Found}
 use Rattle.rs_store.specs.Room.{IsStop}
 use Rattle.rs_store.specs.declared.answer.Answer.{Answer}
 use Rattle.rs_store.specs.declared.answer.Stop.{Stop}

@@ -1,6 +1,6 @@
 -- What a filter chooses of messages below a spot.
 use Rattle.std.specs.Prelude.{ℕ, Bool, ◌&&◌, not, cond, List, [], ◌∷◌, Option, Some, None}
-use Rattle.rs_packet.specs.declared.found.Found.{Found}
+use Rattle.rs_message.specs.declared.found.Found.{Found}
 use Rattle.rs_message.specs.Messages.{is_expired}
 use Rattle.rs_topic.specs.Matching.{fits}
 use Rattle.rs_bucket.specs.Spots.{Spot}

@@ -5,7 +5,7 @@ use Rattle.std.specs.BTreeMap.{is_at}
 use Rattle.std.specs.Option.{is_some}
 use Rattle.rs_topic.specs.Order.{path_cmp}
 use Rattle.rs_topic.specs.Rests.{levels_from}
-use Rattle.rs_packet.specs.declared.found.Found.{Found}
+use Rattle.rs_message.specs.declared.found.Found.{Found}
 
 abbrev pub Spot : Type 0
 Spot = List (List ℕ) × Found

@@ -15,7 +15,7 @@ ghost use Rattle.rs_store.specs.declared.limit.TheConstants.{MAX_TOPICS};
 ghost use Rattle.rs_bucket.specs.Clearing.{Clears};
 ghost use Rattle.rs_bucket.specs.Rests.{IsSomeRest};
 ghost use Rattle.rs_store.specs.Room.{IsStop};
-ghost use Rattle.rs_packet.specs.declared.found.Found.{Found};
+ghost use Rattle.rs_message.specs.declared.found.Found.{Found};
 
 use crate::cleared::Cleared;
 use crate::leaf::{Leaf, answer_one};
@@ -45,7 +45,7 @@ pub struct Bucket {
 
 impl Model for Bucket {
     ghost use Rattle.std.specs.Prelude.{List, ℕ};
-    ghost use Rattle.rs_packet.specs.declared.found.Found.{Found};
+    ghost use Rattle.rs_message.specs.declared.found.Found.{Found};
     ghost use Rattle.rs_bucket.specs.Messages.{spots_retained};
 
     ghost Value = { List (List (List ℕ) × Found) };

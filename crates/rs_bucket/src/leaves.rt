@@ -41,7 +41,7 @@ impl Model for Leaves {
     ghost use Rattle.std.specs.Prelude.{List, ℕ};
     ghost use Rattle.std.specs.List.Sorted.{IsStrictlySortedBy};
     ghost use Rattle.std.specs.Map.{keys_of};
-    ghost use Rattle.rs_packet.specs.declared.found.Found.{Found};
+    ghost use Rattle.rs_message.specs.declared.found.Found.{Found};
     ghost use Rattle.rs_topic.specs.Order.{path_cmp};
     ghost use Rattle.rs_bucket.specs.Buckets.{spots_in};
 

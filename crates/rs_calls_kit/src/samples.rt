@@ -5,8 +5,7 @@ ghost use Rattle.rs_message.specs.Messages.{is_sweep};
 
 use crate::failure::Failure;
 use bytes::Bytes;
-use rs_message::{Entry, Found, Message, Operation, Origin};
-use rs_packet::{Properties, Qos};
+use rs_message::{Entry, Found, Message, Operation, Origin, Properties, Qos};
 use rs_topic::{MAX_LEVELS, TopicName};
 use std::alloc::{AllocError, Global};
 

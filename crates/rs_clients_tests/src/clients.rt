@@ -4,6 +4,7 @@ mod bursts;
 mod fleet;
 mod memory;
 mod numbers;
+mod opened;
 mod shared;
 mod standing;
 mod together;

@@ -5,14 +5,14 @@ use Rattle.std.specs.List.{All, flat_map}
 use Rattle.std.specs.Int.{w32}
 use Rattle.std.proofs.lemmas.List.{append-nil}
 use Rattle.rs_field.specs.declared.fault.PacketFault.{PacketFault}
-use Rattle.rs_field.specs.declared.property.Property.{Property}
-use Rattle.rs_field.specs.declared.property.Property.TheVariants as property
-use Rattle.rs_field.specs.Values.{PacketProperties, PropertiesValue}
-use Rattle.rs_field.specs.Properties.{varint_end, number, identifier, value, property_bytes, counted, nothing, collected, IsShort, IsSubscriptionId}
+use Rattle.rs_property.specs.declared.property.Property.{Property}
+use Rattle.rs_property.specs.declared.property.Property.TheVariants as property
+use Rattle.rs_property.specs.Values.{PacketProperties, PropertiesValue}
+use Rattle.rs_property.specs.Properties.{varint_end, number, identifier, value, property_bytes, counted, nothing, collected, IsShort, IsSubscriptionId}
 use Rattle.rs_field.specs.Reading.{◌>>=◌, byte_at, number_at, binary_at, varint_at}
-use Rattle.rs_field.specs.Carried.{optional, user_property, replayed}
+use Rattle.rs_property.specs.Carried.{optional, user_property, replayed}
 use Rattle.rs_field.proofs.Fields.{wide32, number_again, binary_again, varint_again}
-use Rattle.rs_field.specs.Bounds.{SectionFits}
+use Rattle.rs_property.specs.Bounds.{SectionFits}
 
 -- a property of a message whose value has its form
 abbrev pub HasForm : Property → Type 0

@@ -8,9 +8,10 @@ use Rattle.rs_field.specs.declared.fault.PacketFault.TheVariants.{Malformed}
 use Rattle.rs_field.specs.declared.varint.VarintFault.{VarintFault}
 use Rattle.rs_field.specs.declared.varint.VarintFault.TheVariants.{Bad}
 use Rattle.rs_topic.specs.Texts.{IsText, reads_as_text}
-use Rattle.rs_field.specs.Properties.{low_first, varint, varint_end, counted, IsShort}
+use Rattle.rs_property.specs.Properties.{low_first, varint, varint_end, counted, IsShort}
 use Rattle.rs_field.specs.Reading.{◌>>=◌, digits_at, within, varint_at, number_at, part_at, binary_at, text_at}
-use Rattle.rs_field.proofs.Numbers.{bind_ok, chosen, guarded, ok_is}
+use Rattle.rs_field.proofs.Numbers.{bind_ok, guarded, ok_is}
+use Rattle.rs_property.proofs.Identifiers.{chosen}
 use Rattle.rs_topic.proofs.TextLemmas.{is_text_when_read, reads_when_text}
 
 abbrev pub IsBytes : List ℕ → Type 0

@@ -1,9 +1,7 @@
 pub mod Numbers
 pub mod PropertyLoop
 pub mod Fields
-pub mod Identifiers
 pub mod PropertyLaws
-pub mod Replayed
 pub mod Written
 pub mod CarriedLaws
 pub mod Sizes

@@ -4,15 +4,12 @@ use Rattle.std.specs.Prelude.{◌⊎◌}
 use Rattle.std.proofs.lemmas.List.{take_all}
 use Rattle.rs_field.specs.declared.varint.VarintFault.TheVariants.{Bad}
 use Rattle.rs_field.specs.Reading.{◌>>=◌, digits_at, IsEnd}
+use Rattle.rs_property.proofs.Identifiers.{chosen}
 
 -- the value of a step that did not fail
 pub bind_ok : {A B E : Type 0} (r : Result A E) (f : A → Result B E) (y : B) → (r >>= f) ≡ Ok y → (x : A) × (r ≡ Ok x) × (f x ≡ Ok y)
 bind_ok (Ok x) f y e = (x, refl, e)
 bind_ok (Err d) f y e = absurd cc
-
-pub chosen : {A : Type 0} (b : Bool) (x y z : A) → cond b x y ≡ z → ((b ≡ true) × (x ≡ z)) ⊎ ((b ≡ false) × (y ≡ z))
-chosen true x y z e = inl (refl, e)
-chosen false x y z e = inr (refl, e)
 
 -- a test that passed before its value
 pub guarded : {A E : Type 0} (b : Bool) (d : E) (x y : A) → cond {A = Result A E} b (Err d) (Ok x) ≡ Ok y → (b ≡ false) × (x ≡ y)

@@ -6,17 +6,18 @@ use Rattle.std.proofs.lemmas.Bool.{ltb-true, le-ltb, lt-ltb}
 use Rattle.std.proofs.lemmas.List.{length-append}
 use Rattle.rs_field.specs.declared.fault.PacketFault.{PacketFault}
 use Rattle.rs_field.specs.declared.fault.PacketFault.TheVariants.{Protocol}
-use Rattle.rs_field.specs.declared.property.Identifier.{Identifier}
-use Rattle.rs_field.specs.declared.property.Identifier.TheVariants as id
-use Rattle.rs_field.specs.declared.property.Property.{Property}
-use Rattle.rs_field.specs.declared.property.Property.TheVariants as property
-use Rattle.rs_field.specs.declared.property.PropertyOwner.{PropertyOwner}
+use Rattle.rs_property.specs.declared.property.Identifier.{Identifier}
+use Rattle.rs_property.specs.declared.property.Identifier.TheVariants as id
+use Rattle.rs_property.specs.declared.property.Property.{Property}
+use Rattle.rs_property.specs.declared.property.Property.TheVariants as property
+use Rattle.rs_property.specs.declared.property.PropertyOwner.{PropertyOwner}
 use Rattle.rs_topic.specs.Topics.{is_plain}
-use Rattle.rs_field.specs.Properties.{varint, varint_end, number, identifier, value, property_bytes, may_stand, may_repeat, IsInRange, AreAllowed, AreProperties, properties, none_yet, counted, nothing, collected}
-use Rattle.rs_field.specs.Values.{PacketProperties}
-use Rattle.rs_field.specs.Reading.{◌>>=◌, varint_at, byte_at, number_at, part_at, binary_at, text_at, wanting, identifier_of, misplaced, judged, value_at, property_at, properties_in, properties_at, values_at}
+use Rattle.rs_property.specs.Properties.{varint, varint_end, number, identifier, value, property_bytes, may_stand, may_repeat, IsInRange, AreAllowed, AreProperties, properties, none_yet, counted, nothing, collected}
+use Rattle.rs_property.specs.Values.{PacketProperties}
+use Rattle.rs_field.specs.Reading.{◌>>=◌, varint_at, byte_at, number_at, part_at, binary_at, text_at, wanting, misplaced, judged, value_at, property_at, properties_in, properties_at, values_at}
+use Rattle.rs_property.specs.Properties.{identifier_of}
 use Rattle.rs_field.proofs.Numbers.{bind_ok, ok_is}
-use Rattle.rs_field.proofs.Identifiers.{identifier_of_is, identifier_again, one_byte, number_small, AreNew, once_when_new, new_when_once}
+use Rattle.rs_property.proofs.Identifiers.{identifier_of_is, identifier_again, one_byte, number_small, AreNew, once_when_new, new_when_once}
 use Rattle.rs_field.proofs.Fields.{IsBytes, IsBytes-rest, Takes, Takes-then, wide16, wide32, number_takes, number_again, part_takes, part_again, binary_takes, binary_again, text_takes, text_again, varint_takes, varint_again}
 
 pub wanted : {A : Type 0} (b : Bool) (x y : A) → wanting b x ≡ Ok y → (b ≡ true) × (x ≡ y)

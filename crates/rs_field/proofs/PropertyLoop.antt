@@ -3,10 +3,10 @@ use Rattle.std.proofs.Common.{◌≡◌, ℕ, zero, suc, ◌≤◌, ◌<◌, Boo
 use Rattle.std.proofs.lemmas.Bool.{eqb-false, eqb-true}
 use Rattle.rs_field.specs.declared.fault.PacketFault.{PacketFault}
 use Rattle.rs_field.specs.declared.fault.PacketFault.TheVariants.{Malformed, Protocol, TooLarge, Version, NoMemory}
-use Rattle.rs_field.specs.declared.property.PropertyOwner.{PropertyOwner}
-use Rattle.rs_field.specs.declared.property.Property.{Property}
-use Rattle.rs_field.specs.Values.{PacketProperties}
-use Rattle.rs_field.specs.Properties.{collected, put, number, identifier}
+use Rattle.rs_property.specs.declared.property.PropertyOwner.{PropertyOwner}
+use Rattle.rs_property.specs.declared.property.Property.{Property}
+use Rattle.rs_property.specs.Values.{PacketProperties}
+use Rattle.rs_property.specs.Properties.{collected, put, number, identifier}
 use Rattle.rs_field.specs.Reading.{◌>>=◌, Fails, collect_on, properties_in, property_at}
 
 -- what was found, and what the rest adds, is the total

@@ -6,17 +6,17 @@ use Rattle.std.proofs.lemmas.Bool.{cases_lt, lt-ltb, le-ltb}
 use Rattle.std.proofs.lemmas.List.{length-append, map-append}
 use Rattle.std.proofs.lemmas.List.Concat.{flat_map-append}
 use Rattle.rs_field.specs.declared.fault.PacketFault.{PacketFault}
-use Rattle.rs_field.specs.declared.property.Property.{Property}
-use Rattle.rs_field.specs.declared.property.Property.TheVariants as property
-use Rattle.rs_field.specs.declared.property.PropertyOwner.{PropertyOwner}
-use Rattle.rs_field.specs.Values.{PacketProperties}
-use Rattle.rs_field.specs.Properties.{low_first, varint, property_bytes, value, IsInRange, AreAllowed, properties, nothing, put, collected}
-use Rattle.rs_field.specs.Carried.{carried, optional, user_property, replayed}
-use Rattle.rs_field.specs.Bounds.{AreInRange}
+use Rattle.rs_property.specs.declared.property.Property.{Property}
+use Rattle.rs_property.specs.declared.property.Property.TheVariants as property
+use Rattle.rs_property.specs.declared.property.PropertyOwner.{PropertyOwner}
+use Rattle.rs_property.specs.Values.{PacketProperties}
+use Rattle.rs_property.specs.Properties.{low_first, varint, property_bytes, value, IsInRange, AreAllowed, properties, nothing, put, collected}
+use Rattle.rs_property.specs.Carried.{carried, optional, user_property, replayed}
+use Rattle.rs_property.specs.Bounds.{AreInRange}
 use Rattle.rs_field.specs.Reading.{Gives, values_at}
 use Rattle.rs_field.proofs.Fields.{IsBytes}
 use Rattle.rs_field.proofs.PropertyLaws.{values_takes}
-use Rattle.rs_field.proofs.Replayed.{length_replayed}
+use Rattle.rs_property.proofs.Replayed.{length_replayed}
 
 -- how many bytes the properties that a message carries take
 abbrev pub size : PacketProperties → ℕ

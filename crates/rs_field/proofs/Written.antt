@@ -5,9 +5,9 @@ use Rattle.std.specs.List.{flat_map}
 use Rattle.std.proofs.lemmas.Bool.{lt-ltb, le-ltb}
 use Rattle.std.proofs.lemmas.List.{append-nil, length-append, map-append, map_more, take-append-drop}
 use Rattle.std.proofs.lemmas.List.Concat.{flat_map-append}
-use Rattle.rs_field.specs.declared.property.Property.{Property}
-use Rattle.rs_field.specs.Properties.{low_first, varint, varint_end, property_bytes}
-use Rattle.rs_field.specs.Carried.{user_property}
+use Rattle.rs_property.specs.declared.property.Property.{Property}
+use Rattle.rs_property.specs.Properties.{low_first, varint, varint_end, property_bytes}
+use Rattle.rs_property.specs.Carried.{user_property}
 
 digits_le : (k n : ℕ) → length (low_first k n) ≤ k
 unfolding low_first

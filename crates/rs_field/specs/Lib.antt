@@ -1,9 +1,2 @@
 pub mod Faults
-pub mod Values
-pub mod Forms
-pub mod Properties
 pub mod Reading
-pub mod Carried
-pub mod Bounds
-pub mod Equality
-pub mod Shared

@@ -6,16 +6,16 @@ use Rattle.rs_field.specs.declared.fault.PacketFault.{PacketFault}
 use Rattle.rs_field.specs.declared.fault.PacketFault.TheVariants.{Malformed, Protocol, TooLarge, Version, NoMemory}
 use Rattle.rs_field.specs.declared.varint.VarintFault.{VarintFault}
 use Rattle.rs_field.specs.declared.varint.VarintFault.TheVariants.{Short, Bad}
-use Rattle.rs_field.specs.declared.property.Identifier.{Identifier}
-use Rattle.rs_field.specs.declared.property.Identifier.TheVariants as id
-use Rattle.rs_field.specs.declared.property.Property.{Property}
-use Rattle.rs_field.specs.declared.property.Property.TheVariants as property
-use Rattle.rs_field.specs.declared.property.PropertyOwner.{PropertyOwner}
-use Rattle.rs_field.specs.declared.property.PropertyOwner.TheVariants as owner
+use Rattle.rs_property.specs.declared.property.Identifier.{Identifier}
+use Rattle.rs_property.specs.declared.property.Identifier.TheVariants as id
+use Rattle.rs_property.specs.declared.property.Property.{Property}
+use Rattle.rs_property.specs.declared.property.Property.TheVariants as property
+use Rattle.rs_property.specs.declared.property.PropertyOwner.{PropertyOwner}
+use Rattle.rs_property.specs.declared.property.PropertyOwner.TheVariants as owner
 use Rattle.rs_topic.specs.Texts.{reads_as_text}
 use Rattle.rs_topic.specs.Topics.{is_plain}
-use Rattle.rs_field.specs.Properties.{number, identifier, may_stand, may_repeat, none_yet, nothing, collected}
-use Rattle.rs_field.specs.Values.{PacketProperties}
+use Rattle.rs_property.specs.Properties.{number, identifier, identifier_of, may_stand, may_repeat, none_yet, nothing, collected}
+use Rattle.rs_property.specs.Values.{PacketProperties}
 
 infixl 10 ◌>>=◌
 abbrev pub ◌>>=◌ : {A B E : Type 0} → Result A E → (A → Result B E) → Result B E
@@ -88,18 +88,6 @@ wanting true x = Ok x
 wanting false x = Err Protocol
 
 -- ---- properties
-
-abbrev pub identifiers : List Identifier
-identifiers =
-    id.PayloadFormatIndicator ∷ id.MessageExpiryInterval ∷ id.ContentType ∷ id.ResponseTopic ∷ id.CorrelationData
-    ∷ id.SubscriptionIdentifier
-    ∷ id.SessionExpiryInterval ∷ id.AuthenticationMethod ∷ id.AuthenticationData ∷ id.RequestProblemInformation
-    ∷ id.RequestResponseInformation
-    ∷ id.ServerReference ∷ id.ReasonString ∷ id.ReceiveMaximum ∷ id.TopicAliasMaximum ∷ id.TopicAlias ∷ id.UserProperty
-    ∷ id.MaximumPacketSize ∷ []
-
-unfoldable pub identifier_of : ℕ → Option Identifier
-identifier_of n = find (λ i. number i == n) identifiers
 
 -- a property in another packet than its own is malformed (2.2.2.2), but no client may send a Subscription Identifier in a PUBLISH
 -- (3.3.4); for a Server Reference in a client's DISCONNECT the standard names no code, and this one is ours

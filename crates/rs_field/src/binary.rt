@@ -1,7 +1,7 @@
 //! Binary data and UTF-8 encoded strings: two bytes of length, and that many bytes (1.5.4, 1.5.6).
 
 ghost use Rattle.std.specs.Prelude.{◌≡◌, ◌<◌, ◌≤◌, ◌^◌, ◌++◌, length, IfOk, OnOk};
-ghost use Rattle.rs_field.specs.Forms.{counted};
+ghost use Rattle.rs_property.specs.Forms.{counted};
 ghost use Rattle.rs_field.specs.Reading.{Gives, part_at, binary_at, text_at};
 
 use crate::fault::PacketFault;

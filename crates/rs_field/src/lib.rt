@@ -7,26 +7,17 @@
 //! Promised by contracts: a reader gives the field, or the first fault from left to right, exactly as the definition that its
 //! contract names says; only out of memory comes instead of these answers. `read_properties` accepts a property if its packet
 //! may have it and its value is in range, and accepts only User Properties more than once. A writer appends just the bytes of
-//! the form, and a length is their number. Copies of `Properties` are equal, and share their values; `==` goes field by field. A
-//! `SubscriptionId` is never 0 and always has a form of at most four bytes.
+//! the form, and a length is their number.
 #![tactic(auto)]
 
 mod binary;
-mod carried;
 mod fault;
-mod limits;
 mod number;
 mod properties;
-mod property;
-mod subscription;
 mod varint;
 
 pub use binary::{put_binary, put_string, read_binary, read_part, read_string};
-pub use carried::{Properties, PropertyFields};
 pub use fault::PacketFault;
-pub use limits::MAX_REMAINING_LENGTH;
 pub use number::{put_u16, put_u32, read_u8, read_u16, read_u32};
 pub use properties::{note_octets, properties_len, put_properties, read_properties};
-pub use property::{Identifier, PropertyOwner, PropertyValues};
-pub use subscription::SubscriptionId;
 pub use varint::{VarintFault, parse_varint, put_varint, read_varint, varint_len};

@@ -2,7 +2,7 @@
 
 ghost use Rattle.std.specs.Prelude.{◌≡◌, ◌<◌, ◌≤◌, ◌++◌, length, OnOk};
 ghost use Rattle.std.specs.Int.{w16, w32};
-ghost use Rattle.rs_field.specs.Forms.{two, four};
+ghost use Rattle.rs_property.specs.Forms.{two, four};
 ghost use Rattle.rs_field.specs.Reading.{Gives, byte_at, number_at};
 
 use crate::fault::PacketFault;

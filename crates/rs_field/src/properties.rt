@@ -2,27 +2,25 @@
 
 ghost use Rattle.std.specs.Prelude.{◌≡◌, ◌+◌, ◌<◌, ◌≤◌, ◌^◌, ◌++◌, length, map, slice_index, ℕ, IfOk, OnOk, IfSome, None};
 ghost use Rattle.std.specs.List.{All, flat_map};
-ghost use Rattle.rs_field.specs.Forms.{varint_end, IsShort, IsSubscriptionId};
-ghost use Rattle.rs_field.specs.Properties.{nothing, none_yet, properties, property_bytes};
-ghost use Rattle.rs_field.specs.Carried.{carried, replayed, optional, user_property};
-ghost use Rattle.rs_field.specs.Values.{no_properties};
-ghost use Rattle.rs_field.specs.Bounds.{AreInRange, SectionFits};
+ghost use Rattle.rs_property.specs.Forms.{varint_end, IsShort, IsSubscriptionId};
+ghost use Rattle.rs_property.specs.Properties.{nothing, none_yet, properties, property_bytes};
+ghost use Rattle.rs_property.specs.Carried.{carried, replayed, optional, user_property};
+ghost use Rattle.rs_property.specs.Values.{no_properties};
+ghost use Rattle.rs_property.specs.Bounds.{AreInRange, SectionFits};
 ghost use Rattle.rs_field.specs.Reading.{Gives, judged, value_at, property_at, properties_in, collect_on, values_at};
-ghost use Rattle.rs_field.specs.declared.property.Identifier.TheVariants as identifier;
-ghost use Rattle.rs_field.specs.declared.property.Property.TheVariants as property;
+ghost use Rattle.rs_property.specs.declared.property.Identifier.TheVariants as identifier;
+ghost use Rattle.rs_property.specs.declared.property.Property.TheVariants as property;
 
 use crate::binary::{put_binary, put_string, read_binary, read_part, read_string};
-use crate::carried::{Properties, PropertyFields};
 use crate::fault::PacketFault;
 use crate::number::{put_u32, read_u8, read_u16, read_u32};
-use crate::property::{
-    CONTENT_TYPE, CORRELATION_DATA, IDENTIFIERS, Identifier, MESSAGE_EXPIRY_INTERVAL,
-    PAYLOAD_FORMAT_INDICATOR, Property, PropertyOwner, PropertyValues, RESPONSE_TOPIC,
-    SUBSCRIPTION_IDENTIFIER, USER_PROPERTY,
-};
-use crate::subscription::SubscriptionId;
 use crate::varint::{put_varint, read_varint, varint_len};
 use bytes::Bytes;
+use rs_property::{
+    CONTENT_TYPE, CORRELATION_DATA, IDENTIFIERS, Identifier, MESSAGE_EXPIRY_INTERVAL,
+    PAYLOAD_FORMAT_INDICATOR, Properties, Property, PropertyFields, PropertyOwner, PropertyValues,
+    RESPONSE_TOPIC, SUBSCRIPTION_IDENTIFIER, SubscriptionId, USER_PROPERTY,
+};
 use rs_topic::Text;
 use std::alloc::{AllocError, Global};
 
@@ -302,7 +300,7 @@ fn put_subscription(
 }
 
 /// Appends what a message with these fields sends, in rising order of identifier.
-#[tactic(auto, using(crate::proofs::Replayed::replayed_parts))]
+#[tactic(auto, using(rs_property::proofs::Replayed::replayed_parts))]
 fn put_fields(
     out: &mut Vec<u8>,
     expiry: Option<u32>,
@@ -322,7 +320,7 @@ fn put_fields(
 }
 
 /// Appends what a message without fields sends.
-#[tactic(auto, using(crate::proofs::Replayed::replayed_bare))]
+#[tactic(auto, using(rs_property::proofs::Replayed::replayed_bare))]
 fn put_bare(
     out: &mut Vec<u8>,
     expiry: Option<u32>,
@@ -417,7 +415,7 @@ fn correlation_len(correlation: &Option<Bytes>) -> usize
     }
 }
 
-#[tactic(auto, using(crate::proofs::Replayed::length_replayed))]
+#[tactic(auto, using(rs_property::proofs::Replayed::length_replayed))]
 fn fields_len(
     expiry: Option<u32>,
     subscription: Option<SubscriptionId>,
@@ -434,7 +432,7 @@ fn fields_len(
     format + expiry + texts + correlation + user_len(&carried.user)
 }
 
-#[tactic(auto, using(crate::proofs::Replayed::length_replayed))]
+#[tactic(auto, using(rs_property::proofs::Replayed::length_replayed))]
 fn bare_len(expiry: Option<u32>, subscription: Option<SubscriptionId>) -> usize
     ensures value { result ≡ length (flat_map property_bytes (replayed expiry subscription no_properties)) }
     ensures fits { SectionFits expiry subscription no_properties }

@@ -1,7 +1,7 @@
 //! Variable byte integers (1.5.5).
 
 ghost use Rattle.std.specs.Prelude.{◌≡◌, ◌<◌, ◌≤◌, ◌^◌, ◌++◌, length, IfOk, OnOk, OnErr};
-ghost use Rattle.rs_field.specs.Forms.{varint, varint_end};
+ghost use Rattle.rs_property.specs.Forms.{varint, varint_end};
 ghost use Rattle.rs_field.specs.Reading.{Gives, GivesNumber, digits_at, varint_at};
 
 use crate::fault::PacketFault;
@@ -107,7 +107,7 @@ pub fn read_varint(rest: &mut Bytes) -> Result<u32, PacketFault>
 
 /// The number of bytes of a variable byte integer (1.5.5), from 1 to 4. `n` is at most
 /// [`MAX_REMAINING_LENGTH`](crate::MAX_REMAINING_LENGTH).
-#[tactic(auto, unfolding(crate::specs::Forms::low_first))]
+#[tactic(auto, unfolding(rs_property::specs::Forms::low_first))]
 pub fn varint_len(n: usize) -> usize
     requires { n < varint_end }
     ensures value { result ≡ length (varint n) }

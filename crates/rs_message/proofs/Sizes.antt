@@ -1,9 +1,9 @@
 -- The size of a message that keeps no property but its interval.
 use Rattle.std.proofs.Common.{ℕ, ◌+◌, ◌/◌, ◌%◌, ◌≤◌, Bool, true, false, cond, suc, zero, List, [], ◌∷◌, length, arith, length-append, Option, Some, None}
 use Rattle.std.specs.Prelude.{nat_lt}
-use Rattle.rs_packet.specs.Fields.{low_first, varint}
-use Rattle.rs_packet.specs.declared.limits.TheConstants.{MAX_PACKET_SIZE}
-use Rattle.rs_packet.specs.Replies.{message_size}
+use Rattle.rs_property.specs.Forms.{low_first, varint}
+use Rattle.rs_message.specs.declared.limits.TheConstants.{MAX_PACKET_SIZE}
+use Rattle.rs_message.specs.Sizes.{message_size}
 use Rattle.rs_message.specs.Bare.{no_properties}
 
 digits_le : (k n : ℕ) → length (low_first k n) ≤ k

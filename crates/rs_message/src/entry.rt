@@ -1,12 +1,15 @@
 //! The entries of the store's history.
 
 ghost use Rattle.std.specs.Prelude.{◌≡◌, ◌≢◌, ◌+◌, ◌<◌, ◌≤◌, ◌&&◌, nat_lt, nat_le, if◌then◌else◌, [], true, Some, None, IfOk, IfErr, length};
-ghost use Rattle.rs_packet.specs.declared.limits.TheConstants.{MAX_PACKET_SIZE};
-ghost use Rattle.rs_packet.specs.Replies.{message_size};
+ghost use Rattle.rs_message.specs.declared.limits.TheConstants.{MAX_PACKET_SIZE};
+ghost use Rattle.rs_message.specs.Sizes.{message_size};
 ghost use Rattle.rs_message.specs.Messages.{is_sweep, operation_of};
 
+use crate::found::Found;
+use crate::message::Message;
+use crate::qos::Qos;
 use bytes::Bytes;
-use rs_packet::{Found, Message, Properties, Qos};
+use rs_property::Properties;
 use rs_topic::TopicName;
 use std::alloc::{AllocError, Global};
 use std::marker::Model;

@@ -11,11 +11,19 @@
 
 mod entry;
 mod fault;
+mod found;
+mod limits;
+mod message;
 mod places;
+mod qos;
 mod same;
 
 pub use entry::{Entry, MAX_PLACES, Operation, Origin};
 pub use fault::SubmitFault;
+pub use found::Found;
+pub use limits::MAX_PACKET_SIZE;
+pub use message::{Message, Remaining};
 pub use places::PlaceCount;
-pub use rs_packet::{Found, Message, Remaining};
+pub use qos::Qos;
+pub use rs_property::Properties;
 pub use same::is_same;

@@ -3,7 +3,8 @@
 ghost use Rattle.std.specs.Prelude.{◌≡◌, Decides};
 
 use crate::entry::{Entry, Operation};
-use rs_packet::{Found, Message};
+use crate::found::Found;
+use crate::message::Message;
 
 fn is_same_bytes(one: &[u8], other: &[u8]) -> bool
     ensures { Decides result (one.now ≡ other.now) }

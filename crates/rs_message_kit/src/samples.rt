@@ -4,8 +4,7 @@ ghost use Rattle.std.specs.Prelude.{◌≡◌, ◌≢◌, ◌≤◌, [], false, 
 ghost use Rattle.rs_message.specs.Messages.{is_sweep};
 
 use bytes::Bytes;
-use rs_message::{Found, Message, Operation, Origin};
-use rs_packet::{Properties, Qos};
+use rs_message::{Found, Message, Operation, Origin, Properties, Qos};
 use rs_topic::TopicName;
 use std::alloc::Global;
 use std::test::Fail;

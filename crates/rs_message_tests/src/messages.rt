@@ -4,10 +4,9 @@ ghost use Rattle.std.specs.Prelude.{◌≢◌, ◌≤◌, [], length};
 
 use bytes::Bytes;
 use rs_message::{
-    Entry, Found, MAX_PLACES, Message, Operation, Origin, PlaceCount, Remaining, SubmitFault,
-    is_same,
+    Entry, Found, MAX_PLACES, Message, Operation, Origin, PlaceCount, Properties, Qos, Remaining,
+    SubmitFault, is_same,
 };
-use rs_packet::{Properties, Qos};
 use rs_test_kit::is_shown;
 use rs_topic::TopicName;
 use std::alloc::{AllocError, Global};

@@ -8,25 +8,26 @@ use Rattle.rs_field.specs.declared.fault.PacketFault.{PacketFault}
 use Rattle.rs_field.specs.declared.fault.PacketFault.TheVariants.{Malformed, Protocol, TooLarge}
 use Rattle.rs_field.specs.declared.varint.VarintFault.{VarintFault}
 use Rattle.rs_field.specs.declared.varint.VarintFault.TheVariants.{Short, Bad}
-use Rattle.rs_field.specs.declared.property.PropertyOwner.TheVariants as owner
+use Rattle.rs_property.specs.declared.property.PropertyOwner.TheVariants as owner
 use Rattle.rs_packet.specs.declared.packet.Packet.TheVariants as packet
 use Rattle.rs_packet.specs.declared.packet.Decoded.{Decoded}
 use Rattle.rs_packet.specs.declared.packet.Decoded.TheVariants.{Whole, More}
 use Rattle.rs_packet.proofs.PacketLaws.{connect_takes, connect_again, publish_takes, publish_again, acknowledgement_takes, acknowledgement_again, code_takes, code_again, subscribe_takes, subscribe_again, unsubscribe_takes, unsubscribe_again}
-use Rattle.rs_packet.specs.declared.packet.Qos.TheVariants.{AtMostOnce, AtLeastOnce, ExactlyOnce}
+use Rattle.rs_message.specs.declared.qos.Qos.TheVariants.{AtMostOnce, AtLeastOnce, ExactlyOnce}
 use Rattle.rs_packet.specs.declared.packet.PacketKind.{PacketKind}
 use Rattle.rs_packet.specs.declared.packet.PacketKind.TheVariants as kind
 use Rattle.rs_packet.specs.declared.packet.Packet.{Packet}
 use Rattle.rs_packet.specs.declared.reply.Reply.{Reply}
 use Rattle.rs_packet.specs.Replies.{EncodesReply, first_byte, reply_body}
-use Rattle.rs_field.specs.Properties.{varint, varint_end}
+use Rattle.rs_property.specs.Properties.{varint, varint_end}
 use Rattle.rs_field.specs.Reading.{◌>>=◌, digits_at, varint_at}
-use Rattle.rs_packet.specs.declared.limits.TheConstants.{MAX_PACKET_SIZE}
+use Rattle.rs_message.specs.declared.limits.TheConstants.{MAX_PACKET_SIZE}
 use Rattle.rs_packet.specs.Grammar.{head, frame, Encodes, EncodesBody, HasPrefix}
 use Rattle.rs_packet.specs.PacketReading.{Gives, kinds, others, kind_or, kind_of, connect_at, publish_at, acknowledgement_at, subscribe_at, unsubscribe_at, code_at, packet_at, body_at, sized, answer}
-use Rattle.rs_field.proofs.Numbers.{bind_ok, ok_is, chosen}
+use Rattle.rs_field.proofs.Numbers.{bind_ok, ok_is}
+use Rattle.rs_property.proofs.Identifiers.{chosen}
 use Rattle.rs_field.proofs.Fields.{IsBytes, IsBytes-take, IsBytes-rest, digits_takes, digits_again, varint_again}
-use Rattle.rs_field.proofs.Identifiers.{find_passes}
+use Rattle.rs_property.proofs.Identifiers.{find_passes}
 
 -- ---- no encoding begins another
 

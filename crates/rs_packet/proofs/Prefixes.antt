@@ -11,13 +11,13 @@ use Rattle.rs_packet.specs.declared.packet.Decoded.TheVariants.{Whole, More}
 use Rattle.rs_packet.specs.declared.packet.PacketKind.{PacketKind}
 use Rattle.rs_packet.specs.declared.packet.Packet.{Packet}
 use Rattle.rs_field.specs.Reading.{◌>>=◌, digits_at, IsEnd}
-use Rattle.rs_packet.specs.declared.limits.TheConstants.{MAX_PACKET_SIZE}
+use Rattle.rs_message.specs.declared.limits.TheConstants.{MAX_PACKET_SIZE}
 use Rattle.rs_packet.specs.Grammar.{Encodes}
 use Rattle.rs_packet.specs.declared.header.Header.{Header}
 use Rattle.rs_packet.specs.PacketReading.{Gives, Fails, kind_of, packet_at, body_at, header_in, header_at, packet_in, sized, answer}
 use Rattle.rs_packet.specs.Prefixes.{IsMore, IsFaulty}
 use Rattle.bytes.proofs.Ranges.{take-append_past}
-use Rattle.rs_field.specs.Properties.{varint, varint_end}
+use Rattle.rs_property.specs.Properties.{varint, varint_end}
 use Rattle.rs_field.proofs.Numbers.{IsEnd-next, digits_rest, cut}
 use Rattle.rs_field.proofs.Fields.{IsBytes, IsBytes-rest, digits_takes, digits_again}
 use Rattle.rs_packet.proofs.AnswerLaws.{answer_again, encoded_once}

@@ -1,11 +1,12 @@
 -- What the types of packets and replies keep.
 use Rattle.std.specs.Prelude.{ℕ, ◌<◌, ◌≤◌, length, IfSome}
-use Rattle.rs_field.specs.Bounds.{MaximaFit}
+use Rattle.rs_property.specs.Bounds.{MaximaFit}
 use Rattle.rs_packet.specs.Values.{PublishValue, ConnectValue, PublishReplyValue, SubscribeValue, UnsubscribeValue, CodesValue}
-use Rattle.rs_field.specs.Properties.{IsSubscriptionId, varint_end}
-use Rattle.rs_packet.specs.declared.limits.TheConstants.{MAX_PACKET_SIZE}
+use Rattle.rs_property.specs.Properties.{IsSubscriptionId, varint_end}
+use Rattle.rs_message.specs.declared.limits.TheConstants.{MAX_PACKET_SIZE}
 use Rattle.rs_packet.specs.Grammar.{IdFits}
-use Rattle.rs_packet.specs.Replies.{message_size, publish_reply_body, codes_body}
+use Rattle.rs_packet.specs.Replies.{publish_reply_body, codes_body}
+use Rattle.rs_message.specs.Sizes.{message_size}
 
 abbrev pub IsConnect : ConnectValue → Type 0
 IsConnect connect = MaximaFit connect.receive_maximum connect.packet_maximum

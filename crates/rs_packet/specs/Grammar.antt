@@ -1,12 +1,12 @@
 -- The packets that a client sends, as bytes: sections 2 and 3.
 use Rattle.std.specs.Prelude.{◌≡◌, ℕ, ◌+◌, ◌*◌, ◌<◌, ◌≤◌, ◌^◌, Bool, true, false, List, [], ◌∷◌, ◌++◌, length, map, take, Option, Some, None}
 use Rattle.std.specs.List.{flat_map}
-use Rattle.rs_field.specs.declared.property.Property.{Property}
-use Rattle.rs_field.specs.declared.property.PropertyOwner.{PropertyOwner}
-use Rattle.rs_field.specs.declared.property.PropertyOwner.TheVariants as owner
-use Rattle.rs_packet.specs.declared.limits.TheConstants.{MAX_PACKET_SIZE}
-use Rattle.rs_packet.specs.declared.packet.Qos.{Qos}
-use Rattle.rs_packet.specs.declared.packet.Qos.TheVariants.{AtMostOnce, AtLeastOnce, ExactlyOnce}
+use Rattle.rs_property.specs.declared.property.Property.{Property}
+use Rattle.rs_property.specs.declared.property.PropertyOwner.{PropertyOwner}
+use Rattle.rs_property.specs.declared.property.PropertyOwner.TheVariants as owner
+use Rattle.rs_message.specs.declared.limits.TheConstants.{MAX_PACKET_SIZE}
+use Rattle.rs_message.specs.declared.qos.Qos.{Qos}
+use Rattle.rs_message.specs.declared.qos.Qos.TheVariants.{AtMostOnce, AtLeastOnce, ExactlyOnce}
 use Rattle.rs_packet.specs.declared.packet.RetainHandling.{RetainHandling}
 use Rattle.rs_packet.specs.declared.packet.RetainHandling.TheVariants.{Always, IfNew, Never}
 use Rattle.rs_packet.specs.declared.packet.Options.{Options}
@@ -20,22 +20,17 @@ use Rattle.rs_packet.specs.declared.packet.Packet.{Packet}
 use Rattle.rs_packet.specs.declared.packet.Packet.TheVariants as packet
 use Rattle.rs_packet.specs.declared.packet.Decoded.{Decoded}
 use Rattle.rs_packet.specs.declared.packet.Decoded.TheVariants.{Whole, More}
+use Rattle.rs_message.specs.Sizes.{level}
 use Rattle.rs_topic.specs.Texts.{IsText}
 use Rattle.rs_topic.specs.Topics.{name_of, filter_of}
-use Rattle.rs_field.specs.Values.{PacketProperties}
-use Rattle.rs_field.specs.Carried.{carried}
+use Rattle.rs_property.specs.Values.{PacketProperties}
+use Rattle.rs_property.specs.Carried.{carried}
 use Rattle.rs_packet.specs.Values.{SubscribeValue, UnsubscribeValue, Asked}
-use Rattle.rs_field.specs.Properties.{varint, two, counted, IsShort, AreProperties, properties, collected, nothing}
+use Rattle.rs_property.specs.Properties.{varint, two, counted, IsShort, AreProperties, properties, collected, nothing}
 
 abbrev pub bit : Bool → ℕ
 bit true = 1
 bit false = 0
-
--- 4.3
-abbrev pub level : Qos → ℕ
-level AtMostOnce = 0
-level AtLeastOnce = 1
-level ExactlyOnce = 2
 
 -- ---- 2.1.1: a packet is its type and flags, its length, and its body
 

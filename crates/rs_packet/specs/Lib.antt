@@ -7,6 +7,3 @@ pub mod PacketReading
 pub mod Replies
 pub mod Prefixes
 pub mod Bounds
-pub mod Equality
-pub mod Messages
-pub mod Views

@@ -7,10 +7,10 @@ use Rattle.rs_field.specs.declared.fault.PacketFault.{PacketFault}
 use Rattle.rs_field.specs.declared.fault.PacketFault.TheVariants.{Malformed, Protocol, TooLarge, Version}
 use Rattle.rs_field.specs.declared.varint.VarintFault.{VarintFault}
 use Rattle.rs_field.specs.declared.varint.VarintFault.TheVariants.{Short, Bad}
-use Rattle.rs_field.specs.declared.property.PropertyOwner.{PropertyOwner}
-use Rattle.rs_field.specs.declared.property.PropertyOwner.TheVariants as owner
-use Rattle.rs_packet.specs.declared.packet.Qos.{Qos}
-use Rattle.rs_packet.specs.declared.packet.Qos.TheVariants.{AtMostOnce, AtLeastOnce, ExactlyOnce}
+use Rattle.rs_property.specs.declared.property.PropertyOwner.{PropertyOwner}
+use Rattle.rs_property.specs.declared.property.PropertyOwner.TheVariants as owner
+use Rattle.rs_message.specs.declared.qos.Qos.{Qos}
+use Rattle.rs_message.specs.declared.qos.Qos.TheVariants.{AtMostOnce, AtLeastOnce, ExactlyOnce}
 use Rattle.rs_packet.specs.declared.packet.RetainHandling.{RetainHandling}
 use Rattle.rs_packet.specs.declared.packet.RetainHandling.TheVariants.{Always, IfNew, Never}
 use Rattle.rs_packet.specs.declared.packet.Options.{Options}
@@ -27,7 +27,7 @@ use Rattle.rs_packet.specs.declared.packet.Decoded.{Decoded}
 use Rattle.rs_packet.specs.declared.packet.Decoded.TheVariants.{Whole, More}
 use Rattle.rs_topic.specs.Topics.{filter_of}
 use Rattle.rs_packet.specs.Values.{SubscribeValue, UnsubscribeValue, Asked, Filter}
-use Rattle.rs_packet.specs.declared.limits.TheConstants.{MAX_PACKET_SIZE}
+use Rattle.rs_message.specs.declared.limits.TheConstants.{MAX_PACKET_SIZE}
 use Rattle.rs_packet.specs.Grammar.{head, publication}
 pub use Rattle.rs_field.specs.Reading.{◌>>=◌, Fails, Gives, GivesNumber}
 use Rattle.rs_field.specs.Reading.{digits_at, byte_at, number_at, binary_at, text_at, wanting, values_at}

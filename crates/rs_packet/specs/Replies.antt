@@ -1,24 +1,19 @@
 -- The replies of the server: one encoding each. Sections 3.2 to 3.14.
 use Rattle.std.specs.Prelude.{◌≡◌, ℕ, ◌+◌, ◌*◌, ◌<◌, ◌^◌, List, [], ◌∷◌, ◌++◌, length, Option, Some, None, IfSome, Bool, true, false, nat_lt, ◌==◌, if◌then◌else◌}
-use Rattle.rs_packet.specs.declared.packet.Qos.{Qos}
+use Rattle.rs_message.specs.declared.qos.Qos.{Qos}
 use Rattle.rs_packet.specs.declared.reply.ConnackAccepted.{ConnackAccepted}
 use Rattle.rs_packet.specs.declared.reply.PublishReply.{PublishReply}
 use Rattle.rs_packet.specs.declared.reply.Reply.{Reply}
 use Rattle.rs_packet.specs.declared.reply.Reply.TheVariants as reply
-use Rattle.rs_field.specs.Values.{PropertiesValue}
-use Rattle.rs_field.specs.Carried.{replayed}
-use Rattle.rs_field.specs.Bounds.{SectionFits}
+use Rattle.rs_property.specs.Values.{PropertiesValue}
+use Rattle.rs_property.specs.Carried.{replayed}
+use Rattle.rs_property.specs.Bounds.{SectionFits}
 use Rattle.rs_packet.specs.Values.{CodesValue}
-use Rattle.rs_field.specs.Properties.{two, four, varint, counted, properties, varint_end, IsShort}
-use Rattle.rs_packet.specs.declared.limits.TheConstants.{MAX_PACKET_SIZE, RECEIVE_MAXIMUM}
-use Rattle.rs_packet.specs.Grammar.{IdFits, frame, level, id_bytes}
-
--- how many bytes a payload of this length and the properties of its message take in a PUBLISH without a Subscription Identifier
-abbrev pub message_len : Option ℕ → PropertiesValue → ℕ → ℕ
-message_len expiry carried payload = payload + length (properties (replayed expiry None carried))
-
-abbrev pub message_size : Option ℕ → PropertiesValue → List ℕ → ℕ
-message_size expiry carried payload = message_len expiry carried (length payload)
+use Rattle.rs_property.specs.Properties.{two, four, varint, counted, properties, varint_end, IsShort}
+use Rattle.rs_packet.specs.declared.limits.TheConstants.{RECEIVE_MAXIMUM}
+use Rattle.rs_message.specs.declared.limits.TheConstants.{MAX_PACKET_SIZE}
+use Rattle.rs_packet.specs.Grammar.{IdFits, frame, id_bytes}
+use Rattle.rs_message.specs.Sizes.{level}
 
 -- 3.2.2.3.2: an interval of 0, sent if the client asked for another
 abbrev pub session_expiry_bytes : Bool → List ℕ

@@ -1,9 +1,9 @@
 -- What contracts see of the types that hold vectors or keep a bound: the same fields, with lists.
 use Rattle.std.specs.Prelude.{ℕ, List, Bool, Option, Result}
 use Rattle.rs_topic.specs.declared.text.TopicFault.{TopicFault}
-use Rattle.rs_packet.specs.declared.packet.Qos.{Qos}
+use Rattle.rs_message.specs.declared.qos.Qos.{Qos}
 use Rattle.rs_packet.specs.declared.packet.Options.{Options}
-use Rattle.rs_field.specs.Values.{PropertiesValue}
+use Rattle.rs_property.specs.Values.{PropertiesValue}
 
 pub record PublishValue : Type 0 where
   pub duplicate : Bool
@@ -25,19 +25,6 @@ pub record ConnectValue : Type 0 where
   pub receive_maximum : Option ℕ
   pub packet_maximum : Option ℕ
   pub client : Option (List ℕ)
-
--- 3.3.1.3: a retained message, with the properties that it carries (3.3.2.3), and when it came
-pub record MessageValue : Type 0 where
-  pub payload : List ℕ
-  pub qos : Qos
-  pub received : ℕ
-  pub expiry : Option ℕ
-  pub properties : PropertiesValue
-
--- 3.3.1.3: a topic and its retained message
-pub record FoundValue : Type 0 where
-  pub topic : List ℕ
-  pub message : MessageValue
 
 pub record PublishReplyValue : Type 0 where
   pub topic : List ℕ

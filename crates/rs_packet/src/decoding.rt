@@ -9,21 +9,22 @@ ghost use Rattle.rs_packet.specs.PacketReading.{Gives, id_at, id_for, publish_at
 ghost use Rattle.rs_field.specs.declared.fault.PacketFault.{PacketFault};
 ghost use Rattle.rs_field.specs.declared.fault.PacketFault.TheVariants.{NoMemory};
 ghost use Rattle.rs_packet.specs.Prefixes.{IsMore, IsFaulty};
-ghost use Rattle.rs_packet.specs.declared.limits.TheConstants.{MAX_PACKET_SIZE};
+ghost use Rattle.rs_message.specs.declared.limits.TheConstants.{MAX_PACKET_SIZE};
 ghost use Rattle.std.specs.Str.{bytes_eq};
 
 use crate::filters::all_items;
 use crate::header::{Header, parse_header};
 use crate::masks::is_set;
 use crate::packet::{
-    Acknowledgement, Connect, ConnectFlags, Decoded, Packet, PacketId, PacketKind, Publish, Qos,
+    Acknowledgement, Connect, ConnectFlags, Decoded, Packet, PacketId, PacketKind, Publish,
     Subscribe, Unsubscribe,
 };
 use bytes::Bytes;
 use rs_field::{
-    PacketFault, Properties, PropertyFields, PropertyOwner, PropertyValues, note_octets,
-    read_binary, read_properties, read_string, read_u8, read_u16,
+    PacketFault, note_octets, read_binary, read_properties, read_string, read_u8, read_u16,
 };
+use rs_message::Qos;
+use rs_property::{Properties, PropertyFields, PropertyOwner, PropertyValues};
 use rs_topic::{Text, TopicName};
 use std::alloc::Global;
 

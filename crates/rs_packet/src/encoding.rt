@@ -1,7 +1,7 @@
 //! Encoding the replies. Those of a fixed form are encoded here, the others in a file of `encoding/` each.
 
 ghost use Rattle.std.specs.Prelude.{◌≡◌, ◌<◌, ◌++◌, length, OnOk, IfOk};
-ghost use Rattle.rs_field.specs.Forms.{varint_end};
+ghost use Rattle.rs_property.specs.Forms.{varint_end};
 ghost use Rattle.rs_packet.specs.Grammar.{frame};
 ghost use Rattle.rs_packet.specs.Replies.{reply_body, reply_bytes, HasEncoding, ReplyFits, EncodesReply};
 

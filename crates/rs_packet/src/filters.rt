@@ -5,9 +5,10 @@ ghost use Rattle.rs_field.specs.declared.fault.PacketFault.{PacketFault};
 ghost use Rattle.rs_packet.specs.PacketReading.{Gives, options_of, asked_at, filter_at, all_in};
 
 use crate::masks::is_set;
-use crate::packet::{Options, Qos, RetainHandling};
+use crate::packet::{Options, RetainHandling};
 use bytes::Bytes;
 use rs_field::{PacketFault, read_string, read_u8};
+use rs_message::Qos;
 use rs_topic::{TopicFault, TopicFilter};
 use std::alloc::Global;
 

@@ -6,9 +6,9 @@ ghost use Rattle.rs_packet.specs.declared.packet.Decoded.{Decoded};
 ghost use Rattle.rs_packet.specs.PacketReading.{header_at, answer};
 ghost use Rattle.rs_packet.specs.Prefixes.{IsMore};
 
-use crate::limits::MAX_PACKET_SIZE;
 use crate::packet::PacketKind;
 use rs_field::{PacketFault, VarintFault, parse_varint};
+use rs_message::MAX_PACKET_SIZE;
 
 /// What the first bytes of a packet say.
 #[derive(Clone, Copy)]

@@ -10,31 +10,26 @@
 //! bytes follow, and at most one prefix of some bytes encodes a packet (`one_packet_law`). `encode` gives the one encoding of a reply;
 //! the encodings are prefix-free, and none is of two replies (`wire_law`). `publish_len` says how long a PUBLISH is before it is
 //! made. docs/WIRE.md has the rules in words.
-//!
-//! A [`Message`] is what is retained of a PUBLISH, and a [`Found`] is a topic with its message in one shared block, which a reply
-//! carries.
 #![tactic(auto)]
 
 mod decoding;
 mod encoding;
 mod filters;
-mod found;
 mod header;
 mod limits;
 mod masks;
-mod message;
 mod packet;
 mod reply;
 
 pub use decoding::{decode, one_packet_law, wire_law};
 pub use encoding::{encode, encode_parts, encoded_len, publish_len};
-pub use found::Found;
 pub use header::needed_len;
-pub use limits::{MAX_PACKET_SIZE, RECEIVE_MAXIMUM};
-pub use message::{Message, Remaining};
+pub use limits::RECEIVE_MAXIMUM;
 pub use packet::{
-    Acknowledgement, Connect, Decoded, Options, Packet, PacketId, Publish, Qos, RetainHandling,
+    Acknowledgement, Connect, Decoded, Options, Packet, PacketId, Publish, RetainHandling,
     Subscribe, Unsubscribe,
 };
 pub use reply::{Codes, ConnackAccepted, PublishReply, Reply};
-pub use rs_field::{MAX_REMAINING_LENGTH, PacketFault, Properties, PropertyFields, SubscriptionId};
+pub use rs_field::PacketFault;
+pub use rs_message::Qos;
+pub use rs_property::{MAX_REMAINING_LENGTH, Properties, PropertyFields, SubscriptionId};

@@ -1,10 +1,5 @@
 //! The limits of the server that a CONNACK announces.
 
-/// The Maximum Packet Size of the server, in bytes (3.2.2.3.6): no longer packet is read.
-pub const MAX_PACKET_SIZE: u32 = 262_144;
-
-const _: () = prove!(MAX_PACKET_SIZE == 262_144);
-
 /// The Receive Maximum that a CONNACK announces (3.2.2.3.3): how many PUBLISH packets of QoS 2 a client may have sent and not yet
 /// released by a PUBREL. One of QoS 1 is acknowledged at once and does not count.
 pub const RECEIVE_MAXIMUM: u16 = 16;

@@ -1,7 +1,9 @@
 //! The packets that a client sends.
 
 use bytes::Bytes;
-use rs_field::{PacketFault, Properties, SubscriptionId};
+use rs_field::PacketFault;
+use rs_message::Qos;
+use rs_property::{Properties, SubscriptionId};
 use rs_topic::{Text, TopicFault, TopicFilter, TopicName};
 use std::marker::Model;
 
@@ -43,34 +45,6 @@ impl PacketId {
         ensures fits { self < 2 ^ 16 }
     {
         self.number
-    }
-}
-
-/// The quality of service (4.3).
-#[derive(Clone, Copy, Debug, PartialEq, Eq)]
-pub enum Qos {
-    /// QoS 0 (4.3.1): no identifier, and no acknowledgement.
-    AtMostOnce,
-    /// QoS 1 (4.3.2): acknowledged by a PUBACK.
-    AtLeastOnce,
-    /// QoS 2 (4.3.3): acknowledged by a PUBREC, a PUBREL and a PUBCOMP.
-    ExactlyOnce,
-}
-
-impl Qos {
-    ghost use Rattle.std.specs.Prelude.{◌≡◌, ◌<◌};
-    ghost use Rattle.rs_packet.specs.Grammar.{level};
-
-    /// The number of the QoS in a packet: 0, 1 or 2.
-    pub fn level(self) -> u8
-        ensures value { result ≡ level self }
-        ensures small { result < 3 }
-    {
-        match self {
-            Qos::AtMostOnce => 0,
-            Qos::AtLeastOnce => 1,
-            Qos::ExactlyOnce => 2,
-        }
     }
 }
 

@@ -1,12 +1,11 @@
 //! What the server sends.
 
 ghost use Rattle.std.specs.Prelude.{◌≡◌, IfSome};
-ghost use Rattle.rs_field.specs.Forms.{IsSubscriptionId};
+ghost use Rattle.rs_property.specs.Forms.{IsSubscriptionId};
 
-use crate::found::Found;
-use crate::limits::MAX_PACKET_SIZE;
-use crate::packet::{PacketId, Qos};
-use rs_field::SubscriptionId;
+use crate::packet::PacketId;
+use rs_message::{Found, MAX_PACKET_SIZE, Qos};
+use rs_property::SubscriptionId;
 use rs_topic::Text;
 use std::marker::Model;
 
@@ -68,7 +67,7 @@ impl PublishReply {
     ghost use Rattle.std.specs.Prelude.{◌≡◌, ◌≤◌};
     ghost use Rattle.rs_packet.specs.Values.{PublishReplyValue};
     ghost use Rattle.rs_packet.specs.Grammar.{IdFits};
-    ghost use Rattle.rs_packet.specs.Replies.{message_size};
+    ghost use Rattle.rs_message.specs.Sizes.{message_size};
 
     /// A PUBLISH (3.3) with an identifier if QoS is 1 or 2. Payload and properties, without the Subscription
     /// Identifier, take at most `MAX_PACKET_SIZE` bytes.

@@ -3,43 +3,49 @@
 ghost use Rattle.std.specs.Prelude.{◌≡◌};
 
 use crate::groups::{
-    Book, Done, Group, Grouping, Left, Place, ROUNDS, groups, leave, refused, refused_to_crowd,
-    submit_all, summed,
+    Book, Done, Group, Grouping, Opened, Place, blanks, groups, leave, open, refused,
+    refused_to_crowd, start, submit_all, summed,
 };
 use crate::view::View;
 use rs_calls_kit::{Failure, check};
 use rs_client_gate::{ClientGate, SharedPlaces};
-use rs_intake::{BlankQueue, Ended, blank_queue, run_writer};
+use rs_intake::{BlankQueue, Ended};
 use rs_line::{LineEnd, LineName};
-use rs_message::{Operation, PlaceCount, SubmitFault};
+use rs_message::{Operation, SubmitFault};
 use rs_session::Gate;
-use rs_store::TopicLimit;
 use rs_topic::TopicFilter;
 use rs_version::Blank;
 use std::alloc::Global;
 use std::marker::Brand;
-use std::mem::swap;
 use std::sync::{Arc, Wait};
-use std::thread::{JoinHandle, Threads, spawn};
+use std::thread::{JoinHandle, Threads};
 
-/// Two clients of a place. The one that submits next was not the last.
+/// Clients of a place. The one that submits next is behind the last one.
 #[derive(Drop)]
-struct Pair<N: LineName, H: Wait + Copy + Drop> {
-    own: ClientGate<N, H>,
-    other: ClientGate<N, H>,
+struct Clients<N: LineName, H: Wait + Copy + Drop> {
+    gates: Vec<ClientGate<N, H>>,
+    next: usize,
     all: TopicFilter,
 }
 
-impl<N: LineName, H: Wait + Copy + Drop> Place for Pair<N, H> {
+impl<N: LineName, H: Wait + Copy + Drop> Place for Clients<N, H> {
     fn expect(&mut self, changes: Vec<Operation>) {
-        swap(&mut self.own, &mut self.other);
-        self.own.expect(changes);
+        self.next = self.next.saturating_add(1);
+        if self.next >= self.gates.len() {
+            self.next = 0;
+        }
+        if let Some(gate) = self.gates.get_mut(self.next) {
+            gate.expect(changes);
+        }
     }
 
     fn submit(&mut self, change: Operation) -> Done {
-        match self.own.submit(change) {
+        let Some(gate) = self.gates.get_mut(self.next) else {
+            return Done::Other;
+        };
+        match gate.submit(change) {
             // Nobody else submits meanwhile, so the entry is the last of the list that was told with it.
-            Ok(()) => Done::Published(self.own.version()),
+            Ok(()) => Done::Published(gate.version()),
             Err(SubmitFault::NoMemory) => Done::Refused,
             Err(SubmitFault::Open) => Done::Held,
             Err(_) => Done::Other,
@@ -47,9 +53,10 @@ impl<N: LineName, H: Wait + Copy + Drop> Place for Pair<N, H> {
     }
 
     fn view(&mut self) -> Option<View> {
-        let found = self.own.answer(&self.all, 0).ok()?;
+        let gate = self.gates.get_mut(self.next)?;
+        let found = gate.answer(&self.all, 0).ok()?;
         Some(View {
-            version: self.own.version(),
+            version: gate.version(),
             found: found.len() as u64,
         })
     }
@@ -59,37 +66,56 @@ impl<N: LineName, H: Wait + Copy + Drop> Place for Pair<N, H> {
 struct Running<N: LineName, H: Wait + Copy + Drop> {
     writer: JoinHandle<Ended<N, H>>,
     places: Arc<SharedPlaces<N>>,
-    pair: Pair<N, H>,
+    clients: Clients<N, H>,
 }
 
-/// Opens the store and the queue, and starts the writer on a thread of its own.
+/// Gates of so many clients at the first place.
+fn gates<N: LineName, H: Wait + Copy + Drop>(
+    rt: H,
+    alloc: Global,
+    places: &Arc<SharedPlaces<N>>,
+    count: u64,
+) -> Result<Vec<ClientGate<N, H>>, Failure> {
+    let mut gates = Vec::new(alloc);
+    for _ in 0..count {
+        let Some(gate) = ClientGate::new(rt, alloc, Arc::try_clone(places)?, 0) else {
+            return Err(Failure::Wrong);
+        };
+        gates.push(gate)?;
+    }
+    Ok(gates)
+}
+
 fn run<H: Wait + Threads + Copy + Send + Sync + 'static, N: LineName + Send + Sync + 'static>(
     rt: H,
     alloc: Global,
     blank: Blank,
     queue: BlankQueue,
     all: TopicFilter,
+    clients: u64,
 ) -> Result<Running<N, H>, Failure>
     requires store { (blank.history ≡ N.history) × (blank.limit ≡ N.limit) }
     requires queue { (queue.name ≡ N.queue) × (queue.places ≡ N.places) }
 {
-    let (writer, seats) = blank.open::<N, H>(rt)?;
-    let (intake, lines, queue) = queue.open::<N>()?;
+    let Opened {
+        writer,
+        seats,
+        intake,
+        lines,
+        queue,
+    } = open::<N, H>(rt, blank, queue)?;
     let places = Arc::new(alloc, SharedPlaces::new(&rt, alloc, intake, seats, lines)?)?;
-    let (Some(own), Some(other)) = (
-        ClientGate::new(rt, alloc, Arc::try_clone(&places)?, 0),
-        ClientGate::new(rt, alloc, Arc::try_clone(&places)?, 0),
-    ) else {
-        return Err(Failure::Wrong);
-    };
-    match spawn(&rt, move || run_writer(&rt, queue, writer)) {
-        Ok(writer) => Ok(Running {
-            writer,
-            places,
-            pair: Pair { own, other, all },
-        }),
-        Err(_) => Err(Failure::NoMemory),
-    }
+    let gates = gates(rt, alloc, &places, clients)?;
+    let writer = start(rt, queue, writer)?;
+    Ok(Running {
+        writer,
+        places,
+        clients: Clients {
+            gates,
+            next: 0,
+            all,
+        },
+    })
 }
 
 /// Closes the line, once no client has the place any more.
@@ -104,50 +130,6 @@ fn close<N: LineName, H: Wait>(
     let ends = Vec::with_capacity(alloc, places.len())?;
     Ok(places.close(rt, ends))
 }
-
-/// The clients submit in turn while the writer works on a thread of its own. Then the place is closed, and all is settled.
-fn tried<H: Wait + Threads + Copy + Send + Sync + 'static, N: LineName + Send + Sync + 'static>(
-    rt: H,
-    alloc: Global,
-    blank: Blank,
-    queue: BlankQueue,
-    all: TopicFilter,
-    grouping: Grouping,
-) -> Result<(Book, Left), Failure>
-    requires store { (blank.history ≡ N.history) × (blank.limit ≡ N.limit) }
-    requires queue { (queue.name ≡ N.queue) × (queue.places ≡ N.places) }
-{
-    // They are made before: between two submits, only what the calls themselves need takes memory.
-    let groups = groups(alloc, grouping)?;
-    let Running {
-        writer,
-        places,
-        mut pair,
-    } = run::<H, N>(rt, alloc, blank, queue, all)?;
-    let book = submit_all(&mut pair, groups, grouping.ends_at_held);
-    drop(pair);
-    let ends = close(&rt, alloc, places)?;
-    let left = leave(ends, writer.join(&rt));
-    Ok((book?, left))
-}
-
-/// The same in a new store. How often memory was refused, as [`refused`] counts it.
-fn worked<H: Wait + Threads + Copy + Send + Sync + 'static>(
-    rt: H,
-    alloc: Global,
-    grouping: Grouping,
-) -> Result<[u64; 3], Failure> {
-    let limit = TopicLimit::new(ROUNDS).ok_or(Failure::Wrong)?;
-    let places = PlaceCount::new(1).ok_or(Failure::Wrong)?;
-    let blank = Blank::new(alloc, limit, places)?;
-    let queue = blank_queue(alloc, places)?;
-    let all = TopicFilter::read(alloc, b"#")?;
-    let (book, left) = tried::<H, Brand>(rt, alloc, blank, queue, all, grouping)?;
-    refused(book, left)
-}
-
-/// How many clients there are in a crowd.
-const CROWD: u64 = 6;
 
 /// What the clients of a crowd were told: how many changes have receipts, for how many memory was refused, and for how many to the writer.
 #[derive(Clone, Copy)]
@@ -221,95 +203,112 @@ fn submit_crowded<N: LineName, H: Wait + Copy + Drop>(
     Ok(book)
 }
 
-/// Gates of a crowd at the first place.
-fn crowd<N: LineName, H: Wait + Copy + Drop>(
-    rt: H,
-    alloc: Global,
-    places: &Arc<SharedPlaces<N>>,
-) -> Result<Vec<ClientGate<N, H>>, Failure> {
-    let mut gates = Vec::new(alloc);
-    for _ in 0..CROWD {
-        let Some(gate) = ClientGate::new(rt, alloc, Arc::try_clone(places)?, 0) else {
-            return Err(Failure::Wrong);
-        };
-        gates.push(gate)?;
-    }
-    Ok(gates)
+/// What the clients were told.
+#[derive(Clone, Copy)]
+enum Told {
+    /// Two, of which each submits a whole group.
+    Pair(Book),
+    Crowd(CrowdBook),
 }
 
-/// A crowd submits while the writer works on a thread of its own. Then the place is closed, and all is settled.
-fn tried_crowd<
-    H: Wait + Threads + Copy + Send + Sync + 'static,
-    N: LineName + Send + Sync + 'static,
->(
+/// Submits the groups.
+fn submit_groups<N: LineName, H: Wait + Copy + Drop>(
+    alloc: Global,
+    clients: &mut Clients<N, H>,
+    groups: Vec<Group>,
+) -> Result<Told, Failure> {
+    if clients.gates.len() > 2 {
+        return match submit_crowded(alloc, &mut clients.gates, groups) {
+            Ok(book) => Ok(Told::Crowd(book)),
+            Err(failure) => Err(failure),
+        };
+    }
+    match submit_all(clients, groups, false) {
+        Ok(book) => Ok(Told::Pair(book)),
+        Err(failure) => Err(failure),
+    }
+}
+
+/// The clients submit while the writer works on a thread of its own. Then the place is closed, and all is settled. How often memory was
+/// refused, as [`refused`] or [`refused_to_crowd`] counts it.
+fn tried<H: Wait + Threads + Copy + Send + Sync + 'static, N: LineName + Send + Sync + 'static>(
     rt: H,
     alloc: Global,
     blank: Blank,
     queue: BlankQueue,
     all: TopicFilter,
-) -> Result<(CrowdBook, Left), Failure>
+    clients: u64,
+    grouping: Grouping,
+) -> Result<[u64; 3], Failure>
     requires store { (blank.history ≡ N.history) × (blank.limit ≡ N.limit) }
     requires queue { (queue.name ≡ N.queue) × (queue.places ≡ N.places) }
 {
-    let grouping = Grouping {
-        groups: u64::from(ROUNDS) / CROWD,
-        size: CROWD,
-        ends_at_held: false,
-    };
+    // They are made before: between two submits, only what the calls themselves need takes memory.
     let groups = groups(alloc, grouping)?;
     let Running {
         writer,
         places,
-        pair,
-    } = run::<H, N>(rt, alloc, blank, queue, all)?;
-    drop(pair);
-    let book = match crowd(rt, alloc, &places) {
-        Ok(mut gates) => submit_crowded(alloc, &mut gates, groups),
-        Err(failure) => Err(failure),
-    };
+        mut clients,
+    } = run::<H, N>(rt, alloc, blank, queue, all, clients)?;
+    let told = submit_groups(alloc, &mut clients, groups);
+    drop(clients);
     let ends = close(&rt, alloc, places)?;
-    let left = leave(ends, writer.join(&rt));
-    Ok((book?, left))
+    let left = leave(&rt, ends, writer);
+    match told? {
+        Told::Pair(book) => refused(book, left),
+        Told::Crowd(book) => refused_to_crowd(book.made, book.submit, book.held, left),
+    }
 }
 
-/// The same in a new store. How often memory was refused, as [`refused_to_crowd`] counts it.
-fn worked_crowd<H: Wait + Threads + Copy + Send + Sync + 'static>(
+/// The same in a new store.
+fn worked<H: Wait + Threads + Copy + Send + Sync + 'static>(
     rt: H,
     alloc: Global,
+    clients: u64,
+    grouping: Grouping,
 ) -> Result<[u64; 3], Failure> {
-    let limit = TopicLimit::new(ROUNDS).ok_or(Failure::Wrong)?;
-    let places = PlaceCount::new(1).ok_or(Failure::Wrong)?;
-    let blank = Blank::new(alloc, limit, places)?;
-    let queue = blank_queue(alloc, places)?;
     let all = TopicFilter::read(alloc, b"#")?;
-    let (book, left) = tried_crowd::<H, Brand>(rt, alloc, blank, queue, all)?;
-    refused_to_crowd(book.made, book.submit, book.held, left)
+    let (blank, queue) = blanks(alloc)?;
+    tried::<H, Brand>(rt, alloc, blank, queue, all, clients, grouping)
 }
 
-/// All topics one by one; all of them in bursts of six.
-const GROUPINGS: [Grouping; 2] = [
-    Grouping {
-        groups: 24,
-        size: 1,
-        ends_at_held: false,
-    },
-    Grouping {
-        groups: 4,
-        size: 6,
-        ends_at_held: false,
-    },
+/// How many clients submit: two, all topics one by one, or in bursts of six; or six, of which each submits one topic of a group.
+const GROUPINGS: [(u64, Grouping); 3] = [
+    (
+        2,
+        Grouping {
+            groups: 24,
+            size: 1,
+            ends_at_held: false,
+        },
+    ),
+    (
+        2,
+        Grouping {
+            groups: 4,
+            size: 6,
+            ends_at_held: false,
+        },
+    ),
+    (
+        6,
+        Grouping {
+            groups: 4,
+            size: 6,
+            ends_at_held: false,
+        },
+    ),
 ];
 
-/// Two clients of a place submit new topics to a store for each grouping, and a crowd to one more. Returns how often memory was refused in
-/// all, in the order of [`refused`].
+/// Clients of a place submit new topics to a store for each grouping. Returns how often memory was refused in all, in the order of
+/// [`refused`].
 pub fn work<H: Wait + Threads + Copy + Send + Sync + 'static>(
     rt: &H,
     alloc: Global,
 ) -> Result<Vec<u64>, Failure> {
-    let mut all = Vec::with_capacity(alloc, GROUPINGS.len() + 1)?;
-    for grouping in GROUPINGS {
-        all.push(worked(*rt, alloc, grouping)?)?;
+    let mut all = Vec::with_capacity(alloc, GROUPINGS.len())?;
+    for (clients, grouping) in GROUPINGS {
+        all.push(worked(*rt, alloc, clients, grouping)?)?;
     }
-    all.push(worked_crowd(*rt, alloc)?)?;
     summed(alloc, all.as_slice())
 }

@@ -1,18 +1,74 @@
-//! Changes that are submitted in groups at a place, and what the place was told.
+//! A store of one place, with a writer on a thread of its own, and changes that are submitted in groups: what the place was told.
 
-ghost use Rattle.std.specs.Prelude.{◌≡◌, All, IfOk, false};
+ghost use Rattle.std.specs.Prelude.{◌≡◌, [], All, IfOk, false};
 ghost use Rattle.rs_message.specs.Messages.{is_sweep};
+ghost use Rattle.rs_version.specs.Writer.{kept_of};
 
 use crate::view::View;
 use rs_calls_kit::{Change, Failure, Naming, check, operation};
-use rs_intake::{Ended, settle};
-use rs_line::{LineEnd, LineName};
-use rs_message::Operation;
-use std::alloc::Global;
+use rs_intake::{BlankQueue, Ended, Queue, blank_queue, run_writer, settle};
+use rs_line::{Intake, LineEnd, LineName, SeatLine};
+use rs_message::{Operation, PlaceCount};
+use rs_store::TopicLimit;
+use rs_version::{Blank, Seat, VersionWriter};
+use std::alloc::{AllocError, Global};
 use std::sync::Wait;
+use std::thread::{JoinHandle, Threads, spawn};
 
 /// How many topics are submitted: so many that the catalogues have to grow more than once.
 pub const ROUNDS: u32 = 24;
+
+/// A new store of one place, and its queue.
+pub fn blanks(alloc: Global) -> Result<(Blank, BlankQueue), Failure> {
+    let limit = TopicLimit::new(ROUNDS).ok_or(Failure::Wrong)?;
+    let places = PlaceCount::new(1).ok_or(Failure::Wrong)?;
+    let blank = Blank::new(alloc, limit, places)?;
+    Ok((blank, blank_queue(alloc, places)?))
+}
+
+/// A store and its queue, under one name.
+#[derive(Drop)]
+pub struct Opened<N: LineName, H: Wait + Copy + Drop> {
+    pub writer: VersionWriter<N, H>,
+    pub seats: Vec<Seat<N>>,
+    pub intake: Intake<N>,
+    pub lines: Vec<SeatLine<N>>,
+    pub queue: Queue<N>,
+}
+
+pub fn open<N: LineName, H: Wait + Copy + Drop>(
+    rt: H,
+    blank: Blank,
+    queue: BlankQueue,
+) -> Result<Opened<N, H>, AllocError>
+    requires store { (blank.history ≡ N.history) × (blank.limit ≡ N.limit) }
+    requires queue { (queue.name ≡ N.queue) × (queue.places ≡ N.places) }
+    ensures { IfOk result (λ opened. kept_of opened.writer ≡ []) }
+{
+    let (writer, seats) = blank.open::<N, H>(rt)?;
+    let (intake, lines, queue) = queue.open::<N>()?;
+    Ok(Opened {
+        writer,
+        seats,
+        intake,
+        lines,
+        queue,
+    })
+}
+
+/// Starts the writer on a thread of its own.
+pub fn start<N: LineName + Send + Sync + 'static, H: Wait + Threads + Copy + Send + Sync + 'static>(
+    rt: H,
+    queue: Queue<N>,
+    writer: VersionWriter<N, H>,
+) -> Result<JoinHandle<Ended<N, H>>, Failure>
+    requires { kept_of writer ≡ [] }
+{
+    match spawn(&rt, move || run_writer(&rt, queue, writer)) {
+        Ok(writer) => Ok(writer),
+        Err(_) => Err(Failure::NoMemory),
+    }
+}
 
 /// What became of a submit.
 #[derive(Clone, Copy)]
@@ -181,9 +237,13 @@ pub struct Left {
     is_settled: bool,
 }
 
-/// Settles what was sent with what the writer took.
-pub fn leave<N: LineName, R: Wait + Drop>(ends: Vec<LineEnd<N>>, ended: Ended<N, R>) -> Left {
-    let mut ended = ended;
+/// Waits for the writer, and settles what was sent with what it took.
+pub fn leave<N: LineName, H: Wait + Threads + Copy>(
+    rt: &H,
+    ends: Vec<LineEnd<N>>,
+    writer: JoinHandle<Ended<N, H>>,
+) -> Left {
+    let mut ended = writer.join(rt);
     let settled = settle(ends, &mut ended).ok();
     Left {
         version: ended.writer.tell().version(),

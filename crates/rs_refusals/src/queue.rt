@@ -3,20 +3,19 @@
 ghost use Rattle.std.specs.Prelude.{◌≡◌};
 
 use crate::groups::{
-    Book, Done, Grouping, Left, Place, ROUNDS, groups, leave, refused, submit_all, summed,
+    Done, Grouping, Opened, Place, blanks, groups, leave, open, refused, start, submit_all, summed,
 };
 use crate::view::{View, view_of};
 use rs_calls_kit::Failure;
-use rs_intake::{BlankQueue, Ended, blank_queue, run_writer};
+use rs_intake::{BlankQueue, Ended};
 use rs_line::{Intake, LineName, SeatLine};
-use rs_message::{Operation, PlaceCount, SubmitFault};
-use rs_store::TopicLimit;
+use rs_message::{Operation, SubmitFault};
 use rs_topic::TopicFilter;
 use rs_version::{Blank, Seat};
 use std::alloc::Global;
 use std::marker::Brand;
 use std::sync::Wait;
-use std::thread::{JoinHandle, Threads, spawn};
+use std::thread::{JoinHandle, Threads};
 
 #[derive(Drop)]
 struct Open<N: LineName, H: Wait + Copy + Drop> {
@@ -58,7 +57,6 @@ struct Running<N: LineName, H: Wait + Copy + Drop> {
     place: Open<N, H>,
 }
 
-/// Opens the store and the queue, and starts the writer on a thread of its own.
 fn run<H: Wait + Threads + Copy + Send + Sync + 'static, N: LineName + Send + Sync + 'static>(
     rt: H,
     blank: Blank,
@@ -68,27 +66,31 @@ fn run<H: Wait + Threads + Copy + Send + Sync + 'static, N: LineName + Send + Sy
     requires store { (blank.history ≡ N.history) × (blank.limit ≡ N.limit) }
     requires queue { (queue.name ≡ N.queue) × (queue.places ≡ N.places) }
 {
-    let (writer, mut seats) = blank.open::<N, H>(rt)?;
-    let (intake, mut lines, queue) = queue.open::<N>()?;
+    let Opened {
+        writer,
+        mut seats,
+        intake,
+        mut lines,
+        queue,
+    } = open::<N, H>(rt, blank, queue)?;
     let (Some(line), Some(seat)) = (lines.pop(), seats.pop()) else {
         return Err(Failure::Wrong);
     };
-    match spawn(&rt, move || run_writer(&rt, queue, writer)) {
-        Ok(writer) => Ok(Running {
-            writer,
-            place: Open {
-                rt,
-                intake,
-                line,
-                seat,
-                all,
-            },
-        }),
-        Err(_) => Err(Failure::NoMemory),
-    }
+    let writer = start(rt, queue, writer)?;
+    Ok(Running {
+        writer,
+        place: Open {
+            rt,
+            intake,
+            line,
+            seat,
+            all,
+        },
+    })
 }
 
-/// Submits topics while the writer works on a thread of its own, ends it, and settles.
+/// Submits topics while the writer works on a thread of its own, ends it, and settles. How often memory was refused, as [`refused`] counts
+/// it.
 fn tried<H: Wait + Threads + Copy + Send + Sync + 'static, N: LineName + Send + Sync + 'static>(
     rt: H,
     alloc: Global,
@@ -96,7 +98,7 @@ fn tried<H: Wait + Threads + Copy + Send + Sync + 'static, N: LineName + Send + 
     queue: BlankQueue,
     all: TopicFilter,
     grouping: Grouping,
-) -> Result<(Book, Left), Failure>
+) -> Result<[u64; 3], Failure>
     requires store { (blank.history ≡ N.history) × (blank.limit ≡ N.limit) }
     requires queue { (queue.name ≡ N.queue) × (queue.places ≡ N.places) }
 {
@@ -106,23 +108,19 @@ fn tried<H: Wait + Threads + Copy + Send + Sync + 'static, N: LineName + Send + 
     let book = submit_all(&mut place, groups, grouping.ends_at_held);
     let Open { line, .. } = place;
     let ends = vec![in alloc; line.close(&rt)]?;
-    let left = leave(ends, writer.join(&rt));
-    Ok((book?, left))
+    let left = leave(&rt, ends, writer);
+    refused(book?, left)
 }
 
-/// The same in a new store. How often memory was refused, as [`refused`] counts it.
+/// The same in a new store.
 fn worked<H: Wait + Threads + Copy + Send + Sync + 'static>(
     rt: H,
     alloc: Global,
     grouping: Grouping,
 ) -> Result<[u64; 3], Failure> {
-    let limit = TopicLimit::new(ROUNDS).ok_or(Failure::Wrong)?;
-    let places = PlaceCount::new(1).ok_or(Failure::Wrong)?;
-    let blank = Blank::new(alloc, limit, places)?;
-    let queue = blank_queue(alloc, places)?;
     let all = TopicFilter::read(alloc, b"#")?;
-    let (book, left) = tried::<H, Brand>(rt, alloc, blank, queue, all, grouping)?;
-    refused(book, left)
+    let (blank, queue) = blanks(alloc)?;
+    tried::<H, Brand>(rt, alloc, blank, queue, all, grouping)
 }
 
 /// All topics one by one, and none after one whose entry is held; all of them one by one; all of them, three in a job; all in one job,

@@ -12,8 +12,8 @@ use Rattle.std.proofs.lemmas.Option.{none-some, same_Some}
 use Rattle.rs_packet.specs.declared.packet.Packet.{Packet}
 use Rattle.rs_packet.specs.declared.packet.Packet.TheVariants as packet
 use Rattle.rs_packet.specs.declared.packet.Publish.{Publish}
-use Rattle.rs_packet.specs.declared.packet.Qos.{Qos}
-use Rattle.rs_packet.specs.declared.packet.Qos.TheVariants as qos
+use Rattle.rs_message.specs.declared.qos.Qos.{Qos}
+use Rattle.rs_message.specs.declared.qos.Qos.TheVariants as qos
 use Rattle.rs_packet.specs.declared.reply.Reply.{Reply}
 use Rattle.rs_packet.specs.declared.reply.Reply.TheVariants as reply
 use Rattle.rs_packet.specs.Replies.{reply_bytes}

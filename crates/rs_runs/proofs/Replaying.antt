@@ -7,13 +7,13 @@ use Rattle.std.proofs.lemmas.Option.{none-some, same_Some}
 use Rattle.rs_packet.specs.declared.packet.Connect.{Connect}
 use Rattle.rs_packet.specs.declared.packet.Packet.{Packet}
 use Rattle.rs_packet.specs.declared.packet.Packet.TheVariants as packet
-use Rattle.rs_packet.specs.declared.packet.Qos.{Qos}
-use Rattle.rs_packet.specs.declared.packet.Qos.TheVariants as qos
+use Rattle.rs_message.specs.declared.qos.Qos.{Qos}
+use Rattle.rs_message.specs.declared.qos.Qos.TheVariants as qos
 use Rattle.rs_packet.specs.declared.reply.PublishReply.{PublishReply}
 use Rattle.rs_packet.specs.declared.reply.Reply.{Reply}
 use Rattle.rs_packet.specs.declared.reply.Reply.TheVariants as reply
 use Rattle.rs_packet.specs.Values.{Asked, Filter}
-use Rattle.rs_packet.specs.Grammar.{level}
+use Rattle.rs_message.specs.Sizes.{level}
 use Rattle.rs_packet.specs.Replies.{reply_bytes}
 use Rattle.rs_message.specs.declared.entry.Entry.{Entry}
 use Rattle.rs_window.specs.Calls as window

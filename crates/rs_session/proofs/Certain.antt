@@ -7,7 +7,7 @@ use Rattle.rs_packet.specs.Faults.{PacketFault}
 use Rattle.rs_packet.specs.declared.packet.Packet.{Packet}
 use Rattle.rs_packet.specs.declared.packet.Packet.TheVariants as packet
 use Rattle.rs_packet.specs.declared.packet.Publish.{Publish}
-use Rattle.rs_packet.specs.declared.packet.Qos.{Qos}
+use Rattle.rs_message.specs.declared.qos.Qos.{Qos}
 use Rattle.rs_packet.specs.declared.reply.Reply.{Reply}
 use Rattle.rs_message.specs.declared.entry.Entry.{Entry}
 use Rattle.rs_message.specs.declared.entry.Operation.{Operation}

@@ -8,9 +8,9 @@ use Rattle.rs_packet.specs.declared.reply.PublishReply.{PublishReply}
 use Rattle.rs_packet.specs.declared.reply.Reply.{Reply}
 use Rattle.rs_packet.specs.declared.reply.Reply.TheVariants as reply
 use Rattle.rs_packet.specs.Values.{Asked, Filter}
-use Rattle.rs_packet.specs.Grammar.{level}
+use Rattle.rs_message.specs.Sizes.{level}
 use Rattle.rs_message.specs.declared.entry.Entry.{Entry}
-use Rattle.rs_packet.specs.declared.found.Found.{Found}
+use Rattle.rs_message.specs.declared.found.Found.{Found}
 use Rattle.rs_store.specs.History.{IsAnswer}
 use Rattle.rs_window.specs.Calls as window
 use Rattle.rs_window.specs.Calls.{Call, Queue, Next, Acknowledge}

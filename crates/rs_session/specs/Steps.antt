@@ -3,7 +3,7 @@ use Rattle.std.specs.Prelude.{◌≡◌, ℕ, ◌<◌, ◌≤◌, ◌⊎◌, Lis
 use Rattle.rs_topic.specs.declared.text.TopicFault.{TopicFault}
 use Rattle.rs_topic.specs.declared.text.TopicFault.TheVariants as topic_fault
 use Rattle.rs_packet.specs.declared.packet.Publish.{Publish}
-use Rattle.rs_packet.specs.declared.packet.Qos.{Qos}
+use Rattle.rs_message.specs.declared.qos.Qos.{Qos}
 use Rattle.rs_packet.specs.declared.reply.Reply.{Reply}
 use Rattle.rs_packet.specs.Replies.{reply_bytes}
 use Rattle.rs_message.specs.declared.entry.Entry.{Entry}

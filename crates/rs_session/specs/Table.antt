@@ -9,8 +9,8 @@ use Rattle.rs_topic.specs.declared.text.TopicFault.TheVariants as topic_fault
 use Rattle.rs_packet.specs.declared.limits.TheConstants.{RECEIVE_MAXIMUM}
 use Rattle.rs_packet.specs.Faults.{PacketFault}
 use Rattle.rs_packet.specs.Faults.{Malformed, Protocol, TooLarge, Version, NoMemory}
-use Rattle.rs_packet.specs.declared.packet.Qos.{Qos}
-use Rattle.rs_packet.specs.declared.packet.Qos.TheVariants.{AtMostOnce, AtLeastOnce, ExactlyOnce}
+use Rattle.rs_message.specs.declared.qos.Qos.{Qos}
+use Rattle.rs_message.specs.declared.qos.Qos.TheVariants.{AtMostOnce, AtLeastOnce, ExactlyOnce}
 use Rattle.rs_packet.specs.declared.packet.Acknowledgement.{Acknowledgement}
 use Rattle.rs_packet.specs.declared.packet.Connect.{Connect}
 use Rattle.rs_packet.specs.declared.packet.Publish.{Publish}
@@ -21,11 +21,11 @@ use Rattle.rs_packet.specs.declared.packet.Packet.TheVariants as packet
 use Rattle.rs_packet.specs.declared.reply.Reply.{Reply}
 use Rattle.rs_packet.specs.declared.reply.Reply.TheVariants as reply
 use Rattle.rs_packet.specs.Values.{Asked, Filter}
-use Rattle.rs_packet.specs.Grammar.{level}
+use Rattle.rs_message.specs.Sizes.{level}
 use Rattle.rs_packet.specs.Replies.{reply_bytes}
 use Rattle.rs_message.specs.Messages.{operation_of}
 use Rattle.rs_message.specs.declared.entry.Entry.{Entry}
-use Rattle.rs_packet.specs.declared.found.Found.{Found}
+use Rattle.rs_message.specs.declared.found.Found.{Found}
 use Rattle.rs_message.specs.declared.entry.Operation.{Operation}
 use Rattle.rs_store.specs.History.{IsAnswer}
 use Rattle.rs_window.specs.Calls as window

@@ -78,11 +78,9 @@ fn goes(stream: &mut Polling<Watched>, polls: &AtomicU32, reads: Reads) -> bool 
     let mut room = [0u8; 8_192];
     for _ in 0..reads.count {
         polls.store(0, Ordering::SeqCst);
-        let result = stream.read(&mut room);
-        let is_given = match reads.gives {
-            Gives::Bytes(size) => result.is_ok_and(|given| given == size),
-            Gives::End => result.is_ok_and(|given| given == 0),
-            Gives::Reset => result.is_err_and(|error| error.kind() == ErrorKind::ConnectionReset),
+        let is_given = match stream.read(&mut room) {
+            Ok(given) => reads.gives.is_size(given),
+            Err(error) => reads.gives.is_reset() && error.kind() == ErrorKind::ConnectionReset,
         };
         if !is_given || polls.load(Ordering::SeqCst) != reads.polls {
             return false;

@@ -7,6 +7,7 @@ use std::alloc::Global;
 use std::io::{ErrorKind, Read, Write};
 use std::net::{Net, TcpListener, TcpStream};
 use std::os::fd::AsRawFd;
+use std::process::Abort;
 use std::sync::{Arc, Barrier, Wait};
 use std::test::Fail;
 use std::thread::{Threads, spawn};
@@ -32,6 +33,14 @@ fn first_told(epoll: &Epoll) -> Option<u64> {
     }
 }
 
+/// Waits to this limit: how many numbers are told.
+fn count_told(epoll: &Epoll, numbers: &mut [u64], limit: Option<Duration>) -> Option<usize> {
+    match epoll.wait(numbers, limit) {
+        Ok(count) => Some(count),
+        Err(_) => None,
+    }
+}
+
 /// A client, and its connection.
 fn pair<H: Clock + Net<Listener = TcpListener, Stream = TcpStream> + Threads>(
     rt: &H,
@@ -39,11 +48,10 @@ fn pair<H: Clock + Net<Listener = TcpListener, Stream = TcpStream> + Threads>(
 ) -> Result<Option<(TcpStream, Accepted)>, Fail> {
     let listener = Listener::bind(rt, alloc, "127.0.0.1:0", 1, None)?;
     let client = TcpStream::connect(rt, listener.address(alloc)?.as_str())?;
-    Ok(
-        listener
-            .accept(rt, alloc)
-            .map(|accepted| (client, accepted)),
-    )
+    match listener.accept(rt, alloc) {
+        Some(accepted) => Ok(Some((client, accepted))),
+        None => Ok(None),
+    }
 }
 
 fn read_one(accepted: &mut Accepted) -> Option<u8> {
@@ -51,6 +59,15 @@ fn read_one(accepted: &mut Accepted) -> Option<u8> {
     match accepted.input.read(&mut room) {
         Ok(1) => Some(room[0]),
         _ => None,
+    }
+}
+
+/// Whether a read ends at its limit.
+fn would_block(accepted: &mut Accepted) -> bool {
+    let mut room = [0u8; 1];
+    match accepted.input.read(&mut room) {
+        Ok(_) => false,
+        Err(error) => error.kind() == ErrorKind::WouldBlock,
     }
 }
 
@@ -116,9 +133,7 @@ fn a_read_can_have_another_limit(rt: HostRuntime) -> Result<(), Fail> {
         return Err(Fail::from("no connection"));
     };
     set_read_limit(&accepted.input, Some(Duration::from_micros(1)))?;
-    let mut room = [0u8; 1];
-    let result = accepted.input.read(&mut room);
-    assert!(rt; result.is_err_and(|error| error.kind() == ErrorKind::WouldBlock));
+    assert!(rt; would_block(&mut accepted));
     assert!(rt; !accepted.input.is_unwritten());
     assert!(rt; set_read_limit(&accepted.input, AT_ONCE).is_err());
     // A write waits still: it is more than the system keeps.
@@ -132,19 +147,30 @@ fn a_read_can_have_another_limit(rt: HostRuntime) -> Result<(), Fail> {
     Ok(())
 }
 
+/// The listener tells this number once a client has connected.
+fn check_tells<H: Clock + Net<Listener = TcpListener, Stream = TcpStream> + Threads + Abort>(
+    rt: &H,
+    alloc: Global,
+    epoll: &Epoll,
+    listener: &Listener,
+    number: u64,
+) -> Result<(), Fail> {
+    assert!(rt; !listener.is_finished());
+    epoll.ask_once(listener.as_raw_fd(), number)?;
+    assert!(rt; told(alloc, epoll)?.is_empty());
+    let _client = TcpStream::connect(rt, listener.address(alloc)?.as_str())?;
+    assert!(rt; first_told(epoll) == Some(number));
+    assert!(rt; listener.accept(rt, alloc).is_some());
+    Ok(())
+}
+
 #[test]
 fn a_listener_tells_of_connections(rt: HostRuntime) -> Result<(), Fail> {
     let alloc = rt.alloc();
     let epoll = Epoll::new()?;
     let listener = Listener::bind(&rt, alloc, "127.0.0.1:0", 2, None)?;
-    let address = listener.address(alloc)?;
     for number in 0..2 {
-        assert!(rt; !listener.is_finished());
-        epoll.ask_once(listener.as_raw_fd(), number)?;
-        assert!(rt; told(alloc, &epoll)?.is_empty());
-        let _client = TcpStream::connect(&rt, address.as_str())?;
-        assert!(rt; first_told(&epoll) == Some(number));
-        assert!(rt; listener.accept(&rt, alloc).is_some());
+        check_tells(&rt, alloc, &epoll, &listener, number)?;
     }
     assert!(rt; listener.is_finished());
     Ok(())
@@ -160,11 +186,7 @@ fn a_wait_has_a_limit_and_room(rt: HostRuntime) -> Result<(), Fail> {
         Duration::from_micros(1),
         Duration::from_millis(2),
     ] {
-        assert!(rt;
-            epoll
-                .wait(&mut numbers, Some(limit))
-                .is_ok_and(|count| count == 0)
-        );
+        assert!(rt; count_told(&epoll, &mut numbers, Some(limit)) == Some(0));
     }
     assert!(rt; epoll.wait(&mut [], AT_ONCE).is_err());
     // Three tell, and there is room for two: the third is told next.
@@ -175,9 +197,9 @@ fn a_wait_has_a_limit_and_room(rt: HostRuntime) -> Result<(), Fail> {
         epoll.ask_once(signal.as_raw_fd(), number)?;
         signals.push(signal)?;
     }
-    assert!(rt; epoll.wait(&mut numbers, None).is_ok_and(|count| count == 2));
+    assert!(rt; count_told(&epoll, &mut numbers, None) == Some(2));
     let first = numbers;
-    assert!(rt; epoll.wait(&mut numbers, None).is_ok_and(|count| count == 1));
+    assert!(rt; count_told(&epoll, &mut numbers, None) == Some(1));
     let mut all = [first[0], first[1], numbers[0]];
     all.sort(alloc)?;
     assert!(rt; all == [1, 2, 3]);

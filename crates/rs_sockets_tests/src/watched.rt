@@ -17,6 +17,21 @@ pub enum Gives {
     Reset,
 }
 
+impl Gives {
+    /// Whether it is so many bytes.
+    pub fn is_size(self, given: usize) -> bool {
+        match self {
+            Gives::Bytes(size) => given == size,
+            Gives::End => given == 0,
+            Gives::Reset => false,
+        }
+    }
+
+    pub fn is_reset(self) -> bool {
+        matches!(self, Gives::Reset)
+    }
+}
+
 /// Some reads in a row that are alike.
 #[derive(Clone, Copy)]
 pub struct Reads {

@@ -5,7 +5,7 @@ use Rattle.std.proofs.lemmas.Bool.Decides.{nat_tests}
 use Rattle.rs_message.specs.Values.{MessageValue}
 use Rattle.rs_message.specs.Messages.{is_expired, is_over, left_of, waited, set_of}
 use Rattle.rs_message.specs.declared.entry.Entry.{Entry}
-use Rattle.rs_packet.specs.declared.found.Found.{Found}
+use Rattle.rs_message.specs.declared.found.Found.{Found}
 use Rattle.rs_message.specs.declared.entry.Operation.{Operation}
 use Rattle.rs_message.specs.declared.entry.Operation.TheVariants.{Sweep}
 use Rattle.rs_store.specs.History.{Displaces, Holds, IsAnswer, extended}

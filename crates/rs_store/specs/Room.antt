@@ -1,6 +1,6 @@
 -- How many messages an answer may have.
 use Rattle.std.specs.Prelude.{ℕ, ◌<◌, List, length}
-use Rattle.rs_packet.specs.declared.found.Found.{Found}
+use Rattle.rs_message.specs.declared.found.Found.{Found}
 use Rattle.rs_store.specs.declared.answer.Stop.{Stop}
 use Rattle.rs_store.specs.declared.answer.Stop.TheVariants.{NoRoom, NoMemory}
 

@@ -3,10 +3,8 @@
 use crate::row::nanos;
 use bytes::Bytes;
 use rs_calls_kit::Failure;
-use rs_packet::{
-    Codes, Decoded, Found, MAX_PACKET_SIZE, Message, Packet, Publish, PublishReply, Reply,
-    Subscribe, decode, encode,
-};
+use rs_message::{Found, MAX_PACKET_SIZE, Message};
+use rs_packet::{Codes, Decoded, Packet, Publish, PublishReply, Reply, Subscribe, decode, encode};
 use std::alloc::Global;
 use std::io::Read;
 use std::rt::Clock;

@@ -2,8 +2,8 @@
 
 use rs_test_kit::is_shown;
 use rs_topic::{
-    MAX_LEVELS, MAX_TEXT_SIZE, Text, TopicFault, TopicFilter, TopicName, level_law, match_law,
-    order_law, reading_law,
+    Levels, MAX_LEVELS, MAX_TEXT_SIZE, Text, TopicFault, TopicFilter, TopicName, level_law,
+    match_law, order_law, reading_law,
 };
 use std::alloc::{AllocError, Global};
 use std::cmp::Ordering;
@@ -384,21 +384,23 @@ fn names_are_ordered_as_replayed(rt: HostRuntime) -> Result<(), Fail> {
     Ok(())
 }
 
-static LEVELS: [&[u8]; 4] = [b"", b"a", b"", b"b"];
+/// Whether these are the levels, in this order.
+fn are_levels(levels: Levels<'_>, wanted: &[&[u8]]) -> bool {
+    let mut wanted = wanted.iter();
+    for level in levels {
+        if wanted.next() != Some(&level) {
+            return false;
+        }
+    }
+    wanted.next().is_none()
+}
 
 #[test]
 fn levels_come_in_order(rt: HostRuntime) -> Result<(), Fail> {
     let name = TopicName::read(rt.alloc(), b"/a//b")?;
-    let mut wanted = LEVELS.iter();
-    for level in name.levels() {
-        assert!(rt; wanted.next() == Some(&level));
-    }
-    assert!(rt; wanted.next().is_none());
+    assert!(rt; are_levels(name.levels(), &[b"", b"a", b"", b"b"]));
     let filter = TopicFilter::read(rt.alloc(), b"+/#")?;
-    let mut levels = filter.levels();
-    assert!(rt; levels.next() == Some(b"+".as_slice()));
-    assert!(rt; levels.next() == Some(b"#".as_slice()));
-    assert!(rt; levels.next().is_none());
+    assert!(rt; are_levels(filter.levels(), &[b"+", b"#"]));
     Ok(())
 }
 

@@ -14,7 +14,7 @@ use Rattle.rs_topic.specs.Order.{path_cmp, topic_cmp}
 use Rattle.rs_topic.specs.TopicOrder.{exact_paths, exact_topics, topic_total}
 use Rattle.rs_message.specs.Values.{MessageValue}
 use Rattle.rs_message.specs.Messages.{is_expired}
-use Rattle.rs_packet.specs.declared.found.Found.{Found}
+use Rattle.rs_message.specs.declared.found.Found.{Found}
 use Rattle.rs_topic.specs.Matching.{begins_with_dollar}
 use Rattle.rs_message.specs.declared.entry.Operation.{Operation}
 use Rattle.rs_message.specs.declared.entry.Operation.TheVariants.{Set, Clear, Sweep}

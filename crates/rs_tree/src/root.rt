@@ -30,7 +30,7 @@ pub struct Root {
 
 impl Model for Root {
     ghost use Rattle.std.specs.Prelude.{List, ℕ};
-    ghost use Rattle.rs_packet.specs.declared.found.Found.{Found};
+    ghost use Rattle.rs_message.specs.declared.found.Found.{Found};
 
     ghost Value = { List (List (List ℕ) × Found) };
 

@@ -8,8 +8,8 @@ use Rattle.std.specs.Ordering.{nat_cmp}
 use Rattle.std.specs.Cmp.{unsigned_tied}
 use Rattle.std.proofs.lemmas.Cmp.{nat_cmp_total}
 use Rattle.std.specs.FinMap.{get, insert, remove, len, get-empty, get-insert, get-remove, len-insert, len-remove, len-empty}
-use Rattle.rs_packet.specs.declared.packet.Qos.{Qos}
-use Rattle.rs_packet.specs.declared.packet.Qos.TheVariants as qos
+use Rattle.rs_message.specs.declared.qos.Qos.{Qos}
+use Rattle.rs_message.specs.declared.qos.Qos.TheVariants as qos
 use Rattle.rs_window.specs.declared.fault.Ack.{Ack}
 use Rattle.rs_window.specs.declared.fault.WindowFault.{WindowFault}
 use Rattle.rs_window.specs.declared.fault.WindowFault.TheVariants.{TooManyWaiting, NoMemory, WrongKind, TooManyHeld}

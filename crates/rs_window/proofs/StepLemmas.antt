@@ -2,13 +2,13 @@
 use Rattle.std.proofs.Common.{length, arith, ◌≡◌, ◌≢◌, ℕ, ◌<◌, ◌≤◌, List, [], ◌∷◌, ◌++◌, get_or, Option, Some, None, Bool, true, false, nat_lt, refl, sym, ap, subst, ◌∙◌, inl, inr, length-append}
 use Rattle.std.proofs.lemmas.Bool.Decides.{nat_tests}
 use Rattle.std.specs.FinMap as finite
-use Rattle.rs_packet.specs.declared.packet.Qos.{Qos}
-use Rattle.rs_packet.specs.declared.packet.Qos.TheVariants as qos
+use Rattle.rs_message.specs.declared.qos.Qos.{Qos}
+use Rattle.rs_message.specs.declared.qos.Qos.TheVariants as qos
 use Rattle.rs_packet.specs.Grammar.{IdFits, id_bytes, frame}
 use Rattle.rs_packet.specs.Fields.{counted, properties, varint}
 use Rattle.rs_packet.specs.Fields.{replayed}
 use Rattle.rs_packet.specs.Replies.{first_byte, reply_bytes}
-use Rattle.rs_packet.specs.declared.message.Remaining.TheVariants.{Expired}
+use Rattle.rs_message.specs.declared.message.Remaining.TheVariants.{Expired}
 use Rattle.rs_message.specs.Messages.{remaining_of}
 use Rattle.rs_window.specs.declared.waiting.Waiting.{Waiting}
 use Rattle.rs_window.specs.Values.{OutgoingValue}

@@ -2,17 +2,18 @@
 use Rattle.std.specs.Prelude.{is_some}
 use Rattle.std.proofs.Common.{◌≡◌, ◌⊎◌, ℕ, ◌<◌, ◌≤◌, ◌^◌, ◌||◌, List, [], ◌∷◌, length, Option, Bool, true, false, cond, nat_lt, refl, sym, ap, subst, ◌∙◌, inl, inr, arith}
 use Rattle.std.proofs.lemmas.Bool.Decides.{nat_tests}
-use Rattle.rs_packet.specs.declared.packet.Qos.{Qos}
-use Rattle.rs_packet.specs.declared.packet.Qos.TheVariants as qos
+use Rattle.rs_message.specs.declared.qos.Qos.{Qos}
+use Rattle.rs_message.specs.declared.qos.Qos.TheVariants as qos
 use Rattle.rs_packet.specs.Grammar.{IdFits}
-use Rattle.rs_packet.specs.Replies.{message_len, publish_remaining, reply_bytes}
-use Rattle.rs_packet.specs.declared.limits.TheConstants.{MAX_PACKET_SIZE}
+use Rattle.rs_packet.specs.Replies.{publish_remaining, reply_bytes}
+use Rattle.rs_message.specs.Sizes.{message_len}
+use Rattle.rs_message.specs.declared.limits.TheConstants.{MAX_PACKET_SIZE}
 use Rattle.rs_packet.proofs.Lengths.{message_len_alike, message_publish}
 use Rattle.rs_packet.specs.Fields.{PropertiesValue, varint_end}
 use Rattle.rs_packet.specs.declared.reply.Reply.{Reply}
 use Rattle.rs_packet.specs.declared.reply.Reply.TheVariants as reply
-use Rattle.rs_packet.specs.declared.message.Remaining.{Remaining}
-use Rattle.rs_packet.specs.declared.message.Remaining.TheVariants.{Forever, Left, Expired}
+use Rattle.rs_message.specs.declared.message.Remaining.{Remaining}
+use Rattle.rs_message.specs.declared.message.Remaining.TheVariants.{Forever, Left, Expired}
 use Rattle.rs_message.specs.Messages.{remaining_of, is_over}
 use Rattle.rs_window.specs.declared.waiting.Waiting.{Waiting}
 use Rattle.rs_window.specs.Waiting.{is_dropped, sendable, lesser_qos, some_id, len_with, packet_len, IsDropped}

@@ -4,8 +4,8 @@ use Rattle.std.specs.Ordering.{nat_cmp}
 use Rattle.std.specs.FinMap as map
 use Rattle.slab.specs.Slab.{Slab, entries_from}
 use Rattle.rs_packet.specs.Grammar.{IdFits}
-use Rattle.rs_packet.specs.declared.packet.Qos.{Qos}
-use Rattle.rs_packet.specs.declared.packet.Qos.TheVariants as qos
+use Rattle.rs_message.specs.declared.qos.Qos.{Qos}
+use Rattle.rs_message.specs.declared.qos.Qos.TheVariants as qos
 use Rattle.rs_window.specs.declared.identifiers.Kind.{Kind}
 use Rattle.rs_window.specs.declared.identifiers.Kind.TheVariants.{AtLeastOnce, ExactlyOnce}
 

@@ -1,6 +1,6 @@
 -- What contracts see of the packets that a window gives: the same fields.
 use Rattle.std.specs.Prelude.{ℕ, List, Option}
-use Rattle.rs_packet.specs.declared.packet.Qos.{Qos}
+use Rattle.rs_message.specs.declared.qos.Qos.{Qos}
 use Rattle.rs_message.specs.Values.{MessageValue}
 
 pub record OutgoingValue : Type 0 where

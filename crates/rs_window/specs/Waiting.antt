@@ -1,12 +1,12 @@
 -- Messages that wait to be sent: sections 3.3.1.3, 3.3.2.3.3, 3.8.4 and 3.1.2.11.4 of OASIS MQTT Version 5.0.
 use Rattle.std.specs.Prelude.{◌≡◌, ◌≢◌, ℕ, ◌<◌, ◌≤◌, Bool, ◌||◌, ◌⊎◌, nat_lt, nat_le, if◌then◌else◌, Option, Some, None, List, [], ◌∷◌, length}
-use Rattle.rs_packet.specs.declared.packet.Qos.{Qos}
-use Rattle.rs_packet.specs.declared.packet.Qos.TheVariants as qos
-use Rattle.rs_packet.specs.Grammar.{level}
+use Rattle.rs_message.specs.declared.qos.Qos.{Qos}
+use Rattle.rs_message.specs.declared.qos.Qos.TheVariants as qos
+use Rattle.rs_message.specs.Sizes.{level}
 use Rattle.rs_packet.specs.Replies.{reply_bytes}
-use Rattle.rs_packet.specs.declared.found.Found.{Found}
-use Rattle.rs_packet.specs.declared.message.Remaining.{Remaining}
-use Rattle.rs_packet.specs.declared.message.Remaining.TheVariants.{Forever, Left, Expired}
+use Rattle.rs_message.specs.declared.found.Found.{Found}
+use Rattle.rs_message.specs.declared.message.Remaining.{Remaining}
+use Rattle.rs_message.specs.declared.message.Remaining.TheVariants.{Forever, Left, Expired}
 use Rattle.rs_message.specs.Messages.{remaining_of, is_expired}
 use Rattle.rs_window.specs.Values.{OutgoingValue}
 use Rattle.rs_window.specs.Packets.{reply_of}

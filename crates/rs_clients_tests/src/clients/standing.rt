@@ -4,7 +4,7 @@ ghost use Rattle.std.specs.Prelude.{◌≡◌, []};
 ghost use Rattle.rs_version.specs.Writer.{kept_of};
 
 use super::memory::{Manner, MemoryWatch};
-use rs_client_gate::SharedPlaces;
+use super::opened::{Opened, open};
 use rs_clients::run_clients;
 use rs_intake::{BlankQueue, Ended, Queue, blank_queue, run_writer, settle};
 use rs_line::LineName;
@@ -22,7 +22,7 @@ use std::marker::Brand;
 use std::sync::atomic::Ordering;
 use std::sync::{Arc, Wait};
 use std::test::Fail;
-use std::thread::{Threads, spawn};
+use std::thread::{JoinHandle, Threads, spawn};
 
 /// How many connections end before the writer takes a job: 20 of each of three clients.
 const BEFORE: u64 = 60;
@@ -40,7 +40,21 @@ fn run_late<N: LineName, R: Wait + Copy + Drop>(
     run_writer(&rt, queue, writer)
 }
 
-/// Serves these turns as the clients of one place, while its writer stands still at first.
+fn start_late<
+    N: LineName + Send + Sync + 'static,
+    R: Threads + Wait + Copy + Send + Sync + 'static,
+>(
+    rt: R,
+    counts: Arc<Counts>,
+    queue: Queue<N>,
+    writer: VersionWriter<N, R>,
+) -> Option<JoinHandle<Ended<N, R>>>
+    requires { kept_of writer ≡ [] }
+{
+    spawn(&rt, move || run_late(rt, counts, queue, writer)).ok()
+}
+
+/// Serves these turns as the clients of one place, while its writer stands still at first. `None` if memory or a thread is refused.
 fn served_named<
     N: LineName + Send + Sync + 'static,
     R: Threads + Wait + Copy + Send + Sync + 'static,
@@ -52,7 +66,7 @@ fn served_named<
     queue: BlankQueue,
     turns: Vec<T>,
     counts: &Arc<Counts>,
-) -> Result<Played, Fail>
+) -> Option<Played>
 where
     T::In: Send + 'static,
     T::Out: Send + 'static,
@@ -60,16 +74,22 @@ where
     requires store { (blank.history ≡ N.history) × (blank.limit ≡ N.limit) }
     requires queue { (queue.name ≡ N.queue) × (queue.places ≡ N.places) }
 {
-    let (writer, seats) = blank.open::<N, R>(rt)?;
-    let (intake, lines, queue) = queue.open::<N>()?;
-    let places = SharedPlaces::new(&rt, alloc, intake, seats, lines)?;
-    let waiting = Arc::try_clone(counts)?;
-    let writing = spawn(&rt, move || run_late(rt, waiting, queue, writer))?;
-    let watch = MemoryWatch::new(rt, alloc, places.len(), Manner::InOrder)?;
-    let end = run_clients(rt, alloc, turns, places, watch)?;
+    let Ok(
+        Opened {
+            writer,
+            queue,
+            places,
+        },
+    ) = open::<N, R>(rt, alloc, blank, queue)
+    else {
+        return None;
+    };
+    let writing = start_late(rt, Arc::try_clone(counts).ok()?, queue, writer)?;
+    let watch = MemoryWatch::new(rt, alloc, places.len(), Manner::InOrder).ok()?;
+    let end = run_clients(rt, alloc, turns, places, watch).ok()?;
     let mut ended = writing.join(&rt);
     let changes = settle(end.lines, &mut ended).ok();
-    Ok(Played {
+    Some(Played {
         threads: end.threads,
         right: counts.right.load(Ordering::SeqCst),
         changes,
@@ -112,7 +132,7 @@ fn clients_are_answered_while_the_writer_stands_still(rt: HostRuntime) -> Result
     let one = PlaceCount::new(1).ok_or("a place")?;
     let blank = blank_store(alloc, 10, one)?;
     let queue = blank_queue(alloc, one)?;
-    let served = served_named::<Brand, _, _>(rt, alloc, blank, queue, turns, &counts)?;
-    assert!(rt; served == as_wanted(1, 62, 1, 1));
+    let served = served_named::<Brand, _, _>(rt, alloc, blank, queue, turns, &counts);
+    assert!(rt; served == Some(as_wanted(1, 62, 1, 1)));
     Ok(())
 }

@@ -3,9 +3,10 @@
 ghost use Rattle.std.specs.Prelude.{◌≡◌, false, IfSome};
 ghost use Rattle.rs_message.specs.Messages.{is_sweep};
 
+use super::opened::{Opened, end, open, start};
 use rs_client_gate::{ClientGate, SharedPlaces};
-use rs_intake::{BlankQueue, blank_queue, run_writer, run_writer_for, settle};
-use rs_line::{LineEnd, LineName};
+use rs_intake::{BlankQueue, blank_queue};
+use rs_line::LineName;
 use rs_message::{Operation, PlaceCount};
 use rs_message_kit::set;
 use rs_session::Gate;
@@ -16,7 +17,7 @@ use std::alloc::Global;
 use std::marker::Brand;
 use std::sync::{Arc, Wait};
 use std::test::Fail;
-use std::thread::{Threads, spawn};
+use std::thread::{JoinHandle, Threads, spawn};
 
 /// What is done, by clients that have numbers from 0 on.
 #[derive(Clone, Copy)]
@@ -138,32 +139,32 @@ fn first_wrong<N: LineName, R: Wait + Copy>(
     None
 }
 
-/// Gates of so many clients of the first place.
+/// Gates of so many clients of the first place. `None` if memory is refused.
 fn gates<N: LineName, R: Wait + Copy>(
     rt: R,
     alloc: Global,
     places: &Arc<SharedPlaces<N>>,
     count: usize,
-) -> Result<Vec<ClientGate<N, R>>, Fail> {
-    let mut gates = Vec::with_capacity(alloc, count)?;
+) -> Option<Vec<ClientGate<N, R>>> {
+    let mut gates = Vec::with_capacity(alloc, count).ok()?;
     for _ in 0..count {
-        let gate = ClientGate::new(rt, alloc, Arc::try_clone(places)?, 0).ok_or("a place")?;
-        gates.push(gate)?;
+        let places = Arc::try_clone(places).ok()?;
+        gates.push(ClientGate::new(rt, alloc, places, 0)?).ok()?;
     }
-    Ok(gates)
+    Some(gates)
 }
 
-/// Closes the lines, once no client has a place any more.
-fn close<N: LineName, R: Wait>(
-    rt: &R,
+/// The number of the first step of the row that did not go as it has to, also if memory is refused to the gates.
+fn wrong_step<N: LineName, R: Wait + Copy>(
+    rt: R,
     alloc: Global,
-    places: Arc<SharedPlaces<N>>,
-) -> Result<Vec<LineEnd<N>>, Fail> {
-    let Ok(places) = Arc::try_unwrap(places) else {
-        return Err(Fail::from("a client has its place"));
-    };
-    let ends = Vec::with_capacity(alloc, places.len())?;
-    Ok(places.close(rt, ends))
+    places: &Arc<SharedPlaces<N>>,
+    row: Row,
+) -> Option<usize> {
+    match gates(rt, alloc, places, row.clients) {
+        Some(mut gates) => first_wrong(alloc, &mut gates, row.steps),
+        None => Some(0),
+    }
 }
 
 /// What came of a row: the number of the first step that did not go as it has to; how many entries the writer took; and whether these are
@@ -175,29 +176,32 @@ struct Came {
     is_settled: bool,
 }
 
-/// Plays the row at the only place of a store.
+/// Plays the row at the only place of a store. `None` if memory or a thread is refused.
 fn play_named<
     N: LineName + Send + Sync + 'static,
     R: Threads + Wait + Copy + Send + Sync + 'static,
->(rt: R, alloc: Global, blank: Blank, queue: BlankQueue, row: Row) -> Result<Came, Fail>
+>(rt: R, alloc: Global, blank: Blank, queue: BlankQueue, row: Row) -> Option<Came>
     requires store { (blank.history ≡ N.history) × (blank.limit ≡ N.limit) }
     requires queue { (queue.name ≡ N.queue) × (queue.places ≡ N.places) }
 {
-    let (writer, seats) = blank.open::<N, R>(rt)?;
-    let (intake, lines, queue) = queue.open::<N>()?;
-    let places = Arc::new(alloc, SharedPlaces::new(&rt, alloc, intake, seats, lines)?)?;
-    let mut gates = gates(rt, alloc, &places, row.clients)?;
-    let most = row.most;
-    let writing = spawn(&rt, move || run_writer_for(&rt, queue, writer, most))?;
-    let wrong = first_wrong(alloc, &mut gates, row.steps);
-    drop(gates);
-    let ends = close(&rt, alloc, places)?;
-    let mut ended = writing.join(&rt);
-    let settled = settle(ends, &mut ended).ok();
-    Ok(Came {
+    let Ok(
+        Opened {
+            writer,
+            queue,
+            places,
+        },
+    ) = open::<N, R>(rt, alloc, blank, queue)
+    else {
+        return None;
+    };
+    let places = Arc::new(alloc, places).ok()?;
+    let writing = start(rt, queue, writer, row.most)?;
+    let wrong = wrong_step(rt, alloc, &places, row);
+    let (taken, is_settled) = end(&rt, alloc, places, writing)?;
+    Some(Came {
         wrong,
-        taken: ended.taken,
-        is_settled: settled == Some(ended.taken),
+        taken,
+        is_settled,
     })
 }
 
@@ -210,14 +214,13 @@ fn is_right<R: Threads + Wait + Copy + Send + Sync + 'static>(
     let one = PlaceCount::new(1).ok_or("a place")?;
     let blank = blank_store(alloc, row.topics, one)?;
     let queue = blank_queue(alloc, one)?;
-    let came = play_named::<Brand, R>(rt, alloc, blank, queue, row)?;
-    Ok(
-        came == Came {
-            wrong: None,
-            taken: row.taken,
-            is_settled: true,
-        },
-    )
+    let came = play_named::<Brand, R>(rt, alloc, blank, queue, row);
+    let wanted = Came {
+        wrong: None,
+        taken: row.taken,
+        is_settled: true,
+    };
+    Ok(came == Some(wanted))
 }
 
 /// The writer takes one job, and no further one.
@@ -367,37 +370,56 @@ fn rounds<N: LineName, R: Wait + Copy>(
     count
 }
 
-/// Serves the clients of all threads at the only place of a store. How many changes were acknowledged, and what came of it.
-fn crowd_named<
+/// A thread that serves its clients, whose topics are numbered from this on. `None` if memory or a thread is refused.
+fn start_rounds<
     N: LineName + Send + Sync + 'static,
     R: Threads + Wait + Copy + Send + Sync + 'static,
->(rt: R, alloc: Global, blank: Blank, queue: BlankQueue) -> Result<(u64, Came), Fail>
-    requires store { (blank.history ≡ N.history) × (blank.limit ≡ N.limit) }
-    requires queue { (queue.name ≡ N.queue) × (queue.places ≡ N.places) }
-{
-    let (writer, seats) = blank.open::<N, R>(rt)?;
-    let (intake, lines, queue) = queue.open::<N>()?;
-    let places = Arc::new(alloc, SharedPlaces::new(&rt, alloc, intake, seats, lines)?)?;
-    let writing = spawn(&rt, move || run_writer(&rt, queue, writer))?;
+>(rt: R, alloc: Global, places: &Arc<SharedPlaces<N>>, first: u8) -> Option<JoinHandle<u64>> {
+    let gates = gates(rt, alloc, places, usize::from(CLIENTS))?;
+    spawn(&rt, move || rounds(alloc, gates, first)).ok()
+}
+
+/// Serves the clients of all threads: how many changes were acknowledged. `None` if memory or a thread is refused.
+fn all_rounds<
+    N: LineName + Send + Sync + 'static,
+    R: Threads + Wait + Copy + Send + Sync + 'static,
+>(rt: R, alloc: Global, places: &Arc<SharedPlaces<N>>) -> Option<u64> {
     let mut threads = Vec::new(alloc);
     for thread in 0..THREADS {
-        let gates = gates(rt, alloc, &places, usize::from(CLIENTS))?;
         let first = thread.saturating_mul(CLIENTS);
-        threads.push(spawn(&rt, move || rounds(alloc, gates, first))?)?;
+        threads.push(start_rounds(rt, alloc, places, first)?).ok()?;
     }
     let mut count = 0u64;
     for thread in threads {
         count = count.saturating_add(thread.join(&rt));
     }
-    let ends = close(&rt, alloc, places)?;
-    let mut ended = writing.join(&rt);
-    let settled = settle(ends, &mut ended).ok();
-    let came = Came {
-        wrong: None,
-        taken: ended.taken,
-        is_settled: settled == Some(ended.taken),
+    Some(count)
+}
+
+/// The same at the only place of a store: how many changes were acknowledged, how many entries the writer took, and whether these are all
+/// that were sent. `None` if memory or a thread is refused.
+fn crowd_named<
+    N: LineName + Send + Sync + 'static,
+    R: Threads + Wait + Copy + Send + Sync + 'static,
+>(rt: R, alloc: Global, blank: Blank, queue: BlankQueue) -> Option<(u64, (u64, bool))>
+    requires store { (blank.history ≡ N.history) × (blank.limit ≡ N.limit) }
+    requires queue { (queue.name ≡ N.queue) × (queue.places ≡ N.places) }
+{
+    let Ok(
+        Opened {
+            writer,
+            queue,
+            places,
+        },
+    ) = open::<N, R>(rt, alloc, blank, queue)
+    else {
+        return None;
     };
-    Ok((count, came))
+    let places = Arc::new(alloc, places).ok()?;
+    let writing = start(rt, queue, writer, u64::MAX)?;
+    let count = all_rounds(rt, alloc, &places);
+    let ended = end(&rt, alloc, places, writing)?;
+    Some((count?, ended))
 }
 
 /// Each change of each client is handed over once, and acknowledged, whichever thread hands it over.
@@ -407,15 +429,8 @@ fn threads_hand_over_what_each_other_announced(rt: HostRuntime) -> Result<(), Fa
     let one = PlaceCount::new(1).ok_or("a place")?;
     let blank = blank_store(alloc, 100, one)?;
     let queue = blank_queue(alloc, one)?;
-    let (count, came) = crowd_named::<Brand, _>(rt, alloc, blank, queue)?;
+    let came = crowd_named::<Brand, _>(rt, alloc, blank, queue);
     let all = u64::from(THREADS) * u64::from(CLIENTS) * u64::from(ROUNDS);
-    assert!(rt; count == all);
-    assert!(rt;
-        came == Came {
-            wrong: None,
-            taken: all,
-            is_settled: true,
-        }
-    );
+    assert!(rt; came == Some((all, (all, true))));
     Ok(())
 }

@@ -1,7 +1,7 @@
 //! SUBACK (3.9) and UNSUBACK (3.11).
 
 ghost use Rattle.std.specs.Prelude.{◌≡◌, ◌<◌, ◌^◌, ◌++◌, length, OnOk};
-ghost use Rattle.rs_field.specs.Forms.{varint_end};
+ghost use Rattle.rs_property.specs.Forms.{varint_end};
 ghost use Rattle.rs_packet.specs.Grammar.{frame};
 ghost use Rattle.rs_packet.specs.Replies.{codes_body};
 

@@ -1,5 +1,6 @@
 //! Replies that are written, other than a PUBLISH.
 
+use rs_message::MAX_PACKET_SIZE;
 use rs_packet::*;
 use rs_test_kit::{concat, limits};
 use rs_topic::Text;

@@ -2,11 +2,12 @@
 
 ghost use Rattle.std.specs.Prelude.{◌≤◌};
 ghost use Rattle.rs_packet.specs.Grammar.{IdFits};
-ghost use Rattle.rs_packet.specs.Replies.{message_len};
+ghost use Rattle.rs_message.specs.Sizes.{message_len};
 
 use super::replies::is_encoded;
 use super::{KEPT, PUBLISH};
 use bytes::Bytes;
+use rs_message::{Found, MAX_PACKET_SIZE, Message};
 use rs_packet::*;
 use rs_topic::TopicName;
 use std::alloc::Global;

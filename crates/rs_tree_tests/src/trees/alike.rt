@@ -19,6 +19,22 @@ use std::alloc::{AllocError, Global};
 use std::process::Abort;
 use std::test::Fail;
 
+/// Copies of both catalogues.
+#[derive(Drop)]
+pub struct Copies {
+    map: MapCatalogue,
+    pub tree: TreeCatalogue,
+}
+
+pub fn copy_both(
+    map: &CalmCatalogue<MapCatalogue>,
+    tree: &CalmCatalogue<TreeCatalogue>,
+) -> Result<Copies, AllocError> {
+    let map = map.catalogue().copy()?;
+    let tree = tree.catalogue().copy()?;
+    Ok(Copies { map, tree })
+}
+
 /// A linear congruential generator.
 #[derive(Drop)]
 pub struct Draw {
@@ -51,9 +67,10 @@ impl Draw {
 /// A level of more bytes than a node of the tree has room for.
 const LONG: &[u8] = b"a.long.level.of.26.bytes.a";
 
+const NAME_LEVELS: [&[u8]; 8] = [b"a", b"a", b"b", b"", b"$s", LONG, b"$", b"aa"];
+
 /// Levels of a topic name. Long names share most of theirs.
 pub fn name_of(alloc: Global, draw: &mut Draw) -> Result<Vec<u8>, Fail> {
-    let levels: [&[u8]; 8] = [b"a", b"a", b"b", b"", b"$s", LONG, b"$", b"aa"];
     let mut name = Vec::new(alloc);
     let length = draw.length();
     for i in 0..length {
@@ -61,7 +78,7 @@ pub fn name_of(alloc: Global, draw: &mut Draw) -> Result<Vec<u8>, Fail> {
             name.push(b'/')?;
         }
         let kinds = if length > 5 && i < 118 { 2 } else { 8 };
-        name.extend_from_slice(levels[draw.below(kinds) as usize])?;
+        name.extend_from_slice(NAME_LEVELS[draw.below(kinds) as usize])?;
     }
     if name.is_empty() {
         name.push(b'e')?;
@@ -69,9 +86,10 @@ pub fn name_of(alloc: Global, draw: &mut Draw) -> Result<Vec<u8>, Fail> {
     Ok(name)
 }
 
+const FILTER_LEVELS: [&[u8]; 8] = [b"+", b"a", b"+", b"b", b"", b"$s", b"+", LONG];
+
 /// Levels of a topic filter.
 fn filter_of(alloc: Global, draw: &mut Draw) -> Result<Vec<u8>, Fail> {
-    let levels: [&[u8]; 8] = [b"+", b"a", b"+", b"b", b"", b"$s", b"+", LONG];
     let mut filter = Vec::new(alloc);
     let length = draw.length();
     for i in 0..length {
@@ -79,7 +97,7 @@ fn filter_of(alloc: Global, draw: &mut Draw) -> Result<Vec<u8>, Fail> {
             filter.push(b'/')?;
         }
         let kinds = if length > 5 && i < 118 { 3 } else { 8 };
-        filter.extend_from_slice(levels[draw.below(kinds) as usize])?;
+        filter.extend_from_slice(FILTER_LEVELS[draw.below(kinds) as usize])?;
     }
     if length < 128 && draw.below(2) == 0 {
         filter.extend_from_slice(b"/#")?;
@@ -273,6 +291,19 @@ pub fn check_all_alike<C: Catalogue, D: Catalogue>(
     assert!(rt; first.expired_count(115) == second.expired_count(115));
     assert!(rt; first.earliest() == second.earliest());
     Ok(())
+}
+
+/// Both are alike, and so are copies that were taken before.
+pub fn check_beside(
+    rt: &impl Abort,
+    alloc: Global,
+    map: &CalmCatalogue<MapCatalogue>,
+    tree: &CalmCatalogue<TreeCatalogue>,
+    old: &Copies,
+    filters: &[&[u8]],
+) -> Result<(), Fail> {
+    check_all_alike(rt, alloc, map.catalogue(), tree.catalogue(), filters)?;
+    check_all_alike(rt, alloc, &old.map, &old.tree, filters)
 }
 
 /// A check of both catalogues, over new stores of so many topics.

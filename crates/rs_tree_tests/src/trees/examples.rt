@@ -177,8 +177,25 @@ fn check_says_all<C: Catalogue>(
     Ok(())
 }
 
-/// Makes the first steps in a new store of so many topics. Then it says what it has to, and so does a copy of its catalogue once the
-/// other steps are made. It is known by the bound alone.
+/// Makes the first steps in a store. Then it says what it has to, and so does a copy of its catalogue once the other steps are made. It is
+/// known by the bound alone.
+fn check_steps<C: Catalogue + Drop>(
+    rt: &impl Abort,
+    alloc: Global,
+    store: &mut CalmCatalogue<C>,
+    steps: [&[Step]; 2],
+    facts: &[Fact],
+) -> Result<(), Fail> {
+    check_in_store(rt, alloc, store, steps[0])?;
+    check_says_all(rt, alloc, store.catalogue(), facts)?;
+    let copy = store.catalogue().copy()?;
+    match check_in_store(rt, alloc, store, steps[1]) {
+        Ok(()) => check_says_all(rt, alloc, &copy, facts),
+        Err(fail) => Err(fail),
+    }
+}
+
+/// The same in a new store of so many topics.
 fn check_store<C: Catalogue + Drop>(
     rt: &impl Abort,
     alloc: Global,
@@ -187,11 +204,7 @@ fn check_store<C: Catalogue + Drop>(
     facts: &[Fact],
 ) -> Result<(), Fail> {
     let mut store: CalmCatalogue<C> = CalmCatalogue::new(alloc, limit)?;
-    check_in_store(rt, alloc, &mut store, steps[0])?;
-    check_says_all(rt, alloc, store.catalogue(), facts)?;
-    let copy = store.catalogue().copy()?;
-    check_in_store(rt, alloc, &mut store, steps[1])?;
-    check_says_all(rt, alloc, &copy, facts)
+    check_steps(rt, alloc, &mut store, steps, facts)
 }
 
 fn check_stores(

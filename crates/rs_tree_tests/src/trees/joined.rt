@@ -2,7 +2,7 @@
 
 ghost use Rattle.std.specs.Prelude.{◌≤◌};
 
-use super::alike::{Case, LATE, check_all_alike, check_case, put_both};
+use super::alike::{Case, LATE, check_all_alike, check_beside, check_case, copy_both, put_both};
 use rs_store::{CalmCatalogue, Catalogue, MapCatalogue};
 use rs_tree::TreeCatalogue;
 use std::alloc::Global;
@@ -41,30 +41,62 @@ fn check_each_level(
     Ok(())
 }
 
-/// There are branches while levels are shared, and then no more. A copy keeps its own.
+/// Clears all that [`check_each_level`] sets. A copy keeps its branches.
+fn check_levels_cleared(
+    rt: &impl Abort,
+    alloc: Global,
+    map: &mut CalmCatalogue<MapCatalogue>,
+    tree: &mut CalmCatalogue<TreeCatalogue>,
+) -> Result<(), Fail> {
+    let old = copy_both(map, tree)?;
+    match check_each_level(rt, alloc, map, tree, 4) {
+        Ok(()) => {
+            assert!(rt; 100 < old.tree.branches());
+            check_beside(rt, alloc, map, tree, &old, FILTERS)
+        }
+        Err(fail) => Err(fail),
+    }
+}
+
+/// There are branches while levels are shared, and then no more.
 pub fn check_deep(
     rt: &impl Abort,
     alloc: Global,
     map: &mut CalmCatalogue<MapCatalogue>,
     tree: &mut CalmCatalogue<TreeCatalogue>,
 ) -> Result<(), Fail> {
-    put_both(alloc, map, tree, below(alloc, 127, b"c")?.as_slice(), 1)?;
-    put_both(alloc, map, tree, below(alloc, 127, b"d")?.as_slice(), 1)?;
+    for last in [b"c", b"d"] {
+        let name = below(alloc, 127, last)?;
+        put_both(alloc, map, tree, name.as_slice(), 1)?;
+    }
     assert!(rt; tree.catalogue().branches() == 1);
     check_each_level(rt, alloc, map, tree, 1)?;
     assert!(rt; 100 < tree.catalogue().branches());
-    let (old_map, old_tree) = (map.catalogue().copy()?, tree.catalogue().copy()?);
-    check_each_level(rt, alloc, map, tree, 4)?;
+    check_levels_cleared(rt, alloc, map, tree)?;
     assert!(rt; (tree.catalogue().count(), tree.catalogue().branches()) == (2, 1));
-    check_all_alike(rt, alloc, map.catalogue(), tree.catalogue(), FILTERS)?;
-    assert!(rt; 100 < old_tree.branches());
-    check_all_alike(rt, alloc, &old_map, &old_tree, FILTERS)
+    Ok(())
 }
 
 #[test]
 fn branches_stand_while_levels_are_shared(rt: HostRuntime) -> Result<(), Fail> {
     check_case(&rt, rt.alloc(), 300, Case::Deep)
 }
+
+/// Sets or clears the topic of these bytes and those behind them.
+fn put_below(
+    alloc: Global,
+    map: &mut CalmCatalogue<MapCatalogue>,
+    tree: &mut CalmCatalogue<TreeCatalogue>,
+    name: &[u8],
+    last: &[u8],
+    kind: u64,
+) -> Result<(), Fail> {
+    let mut whole = Vec::from_slice(alloc, name)?;
+    whole.extend_from_slice(last)?;
+    put_both(alloc, map, tree, whole.as_slice(), kind)
+}
+
+const LASTS: [&[u8]; 9] = [b"", b"/1", b"/2", b"/3", b"/4", b"/5", b"/6", b"/7", b"/8"];
 
 /// Sets a topic and eight below it, which are then cleared.
 fn check_left_alone(
@@ -74,19 +106,10 @@ fn check_left_alone(
     tree: &mut CalmCatalogue<TreeCatalogue>,
     name: &[u8],
 ) -> Result<(), Fail> {
-    let lasts: [&[u8]; 9] = [b"", b"/1", b"/2", b"/3", b"/4", b"/5", b"/6", b"/7", b"/8"];
     for kind in [1, 4] {
-        for last in lasts {
-            let mut whole = Vec::from_slice(alloc, name)?;
-            whole.extend_from_slice(last)?;
-            let is_own = last.is_empty();
-            put_both(
-                alloc,
-                map,
-                tree,
-                whole.as_slice(),
-                if is_own { 1 } else { kind },
-            )?;
+        for last in LASTS {
+            let kind = if last.is_empty() { 1 } else { kind };
+            put_below(alloc, map, tree, name, last, kind)?;
         }
         assert!(rt; kind == 4 || 1 < tree.catalogue().branches());
         check_all_alike(rt, alloc, map.catalogue(), tree.catalogue(), FILTERS)?;

@@ -87,6 +87,23 @@ fn check_later(
     Ok(count)
 }
 
+/// Adds an entry, copies at random moments, and looks at copies again: at how many.
+fn go_on(
+    rt: &impl Abort,
+    alloc: Global,
+    draw: &mut Draw,
+    tree: &mut TreeCatalogue,
+    filter: &TopicFilter,
+    snapshots: &mut Vec<Snapshot>,
+    entries: u64,
+) -> Result<u32, Fail> {
+    step(alloc, draw, tree, entries)?;
+    if draw.below(40) == 0 {
+        snapshots.push(taken(alloc, tree, filter, entries)?)?;
+    }
+    Ok(check_later(rt, alloc, snapshots.as_slice(), filter, entries)?)
+}
+
 /// Copies at random moments, and looks at each again.
 fn check_copies(
     rt: &impl Abort,
@@ -98,11 +115,7 @@ fn check_copies(
     let mut snapshots = Vec::new(alloc);
     let mut count: u32 = 0;
     for entries in 1..3001 {
-        step(alloc, &mut draw, tree, entries)?;
-        if draw.below(40) == 0 {
-            snapshots.push(taken(alloc, tree, filter, entries)?)?;
-        }
-        let looked = check_later(rt, alloc, snapshots.as_slice(), filter, entries)?;
+        let looked = go_on(rt, alloc, &mut draw, tree, filter, &mut snapshots, entries)?;
         count = count.saturating_add(looked);
     }
     assert!(rt; 30 < count);
@@ -137,6 +150,23 @@ fn start<R: Threads>(
     Ok(spawn(rt, move || show_the_same(alloc, copy, filter, wanted))?)
 }
 
+/// Adds an entry, and starts a thread now and then.
+fn change_and_read<R: Threads>(
+    rt: &R,
+    alloc: Global,
+    draw: &mut Draw,
+    tree: &mut TreeCatalogue,
+    filter: &TopicFilter,
+    readers: &mut Vec<JoinHandle<bool>>,
+    entries: u64,
+) -> Result<(), Fail> {
+    step(alloc, draw, tree, entries)?;
+    if entries % 50 == 0 {
+        readers.push(start(rt, alloc, tree, filter)?)?;
+    }
+    Ok(())
+}
+
 /// Changes the tree while threads read copies of it.
 fn check_readers<R: Threads + Abort>(
     rt: &R,
@@ -147,10 +177,7 @@ fn check_readers<R: Threads + Abort>(
     let mut draw = Draw { state: 19 };
     let mut readers = Vec::new(alloc);
     for entries in 3001..4001 {
-        step(alloc, &mut draw, tree, entries)?;
-        if entries % 50 == 0 {
-            readers.push(start(rt, alloc, tree, filter)?)?;
-        }
+        change_and_read(rt, alloc, &mut draw, tree, filter, &mut readers, entries)?;
     }
     for reader in readers {
         assert!(rt; reader.join(rt));
@@ -158,14 +185,22 @@ fn check_readers<R: Threads + Abort>(
     Ok(())
 }
 
+fn check_snapshots<R: Threads + Abort>(
+    rt: &R,
+    alloc: Global,
+    tree: &mut TreeCatalogue,
+) -> Result<(), Fail> {
+    let filter = TopicFilter::read(alloc, b"#")?;
+    check_copies(rt, alloc, tree, &filter)?;
+    check_readers(rt, alloc, tree, &filter)?;
+    assert!(rt; 100 < tree.count());
+    Ok(())
+}
+
 #[test]
 fn copies_show_what_they_did_when_taken(rt: HostRuntime) -> Result<(), Fail> {
     let alloc = rt.alloc();
     let limit = TopicLimit::new(500).ok_or("500 is a limit")?;
-    let filter = TopicFilter::read(alloc, b"#")?;
     let mut tree = TreeCatalogue::new(alloc, limit)?;
-    check_copies(&rt, alloc, &mut tree, &filter)?;
-    check_readers(&rt, alloc, &mut tree, &filter)?;
-    assert!(rt; 100 < tree.count());
-    Ok(())
+    check_snapshots(&rt, alloc, &mut tree)
 }

@@ -1,6 +1,6 @@
 //! Many levels side by side, so that chunks are divided, and copies that never change.
 
-use super::alike::{Case, LATE, check_all_alike, check_case, put, put_both};
+use super::alike::{Case, LATE, check_beside, check_case, copy_both, put, put_both};
 use rs_store::{CalmCatalogue, Catalogue, MapCatalogue, TopicLimit};
 use rs_tree::TreeCatalogue;
 use std::alloc::Global;
@@ -38,7 +38,53 @@ fn put_number(
 /// Filters of some topics and of all.
 const FILTERS: &[&[u8]] = &[b"#", b"+", b"+/deep", b"0010", b"7000/#", b"9999"];
 
-/// Sets many topics in a mixed order. Copies stay as they are.
+/// What is put into both.
+#[derive(Clone, Copy)]
+enum Change {
+    /// The topics of these numbers, taken in such steps, are set.
+    Sets(u64, u64, u64),
+    /// Of all topics, taken in such steps, two of three are cleared.
+    Clears(u64),
+    /// A topic is set when all but a quarter have expired.
+    Late,
+}
+
+fn put_change(
+    alloc: Global,
+    map: &mut CalmCatalogue<MapCatalogue>,
+    tree: &mut CalmCatalogue<TreeCatalogue>,
+    change: Change,
+) -> Result<(), Fail> {
+    let (first, end, step, is_cleared) = match change {
+        Change::Sets(first, end, step) => (first, end, step, false),
+        Change::Clears(step) => (0, MANY, step, true),
+        Change::Late => return put_both(alloc, map, tree, b"late", LATE),
+    };
+    for i in first..end {
+        if !is_cleared || i % 3 > 0 {
+            let kind = if is_cleared { 4 } else { i % 3 };
+            put_number(alloc, map, tree, i.wrapping_mul(step) % MANY, kind)?;
+        }
+    }
+    Ok(())
+}
+
+/// Puts the change into both. Copies stay as they were before.
+fn check_changed(
+    rt: &impl Abort,
+    alloc: Global,
+    map: &mut CalmCatalogue<MapCatalogue>,
+    tree: &mut CalmCatalogue<TreeCatalogue>,
+    change: Change,
+) -> Result<(), Fail> {
+    let old = copy_both(map, tree)?;
+    match put_change(alloc, map, tree, change) {
+        Ok(()) => check_beside(rt, alloc, map, tree, &old, FILTERS),
+        Err(fail) => Err(fail),
+    }
+}
+
+/// Sets many topics in a mixed order.
 pub fn check_grown(
     rt: &impl Abort,
     alloc: Global,
@@ -46,23 +92,9 @@ pub fn check_grown(
     tree: &mut CalmCatalogue<TreeCatalogue>,
     step: u64,
 ) -> Result<(), Fail> {
-    for i in 0..MANY / 2 {
-        put_number(alloc, map, tree, i.wrapping_mul(step) % MANY, i % 3)?;
-    }
-    let (old_map, old_tree) = (map.catalogue().copy()?, tree.catalogue().copy()?);
-    for i in MANY / 2..MANY {
-        put_number(alloc, map, tree, i.wrapping_mul(step) % MANY, i % 3)?;
-    }
-    check_all_alike(rt, alloc, map.catalogue(), tree.catalogue(), FILTERS)?;
-    check_all_alike(rt, alloc, &old_map, &old_tree, FILTERS)?;
-    let (old_map, old_tree) = (map.catalogue().copy()?, tree.catalogue().copy()?);
-    for i in 0..MANY {
-        if i % 3 > 0 {
-            put_number(alloc, map, tree, i.wrapping_mul(step) % MANY, 4)?;
-        }
-    }
-    check_all_alike(rt, alloc, map.catalogue(), tree.catalogue(), FILTERS)?;
-    check_all_alike(rt, alloc, &old_map, &old_tree, FILTERS)
+    put_change(alloc, map, tree, Change::Sets(0, MANY / 2, step))?;
+    check_changed(rt, alloc, map, tree, Change::Sets(MANY / 2, MANY, step))?;
+    check_changed(rt, alloc, map, tree, Change::Clears(step))
 }
 
 #[test]
@@ -73,7 +105,7 @@ fn wide_chunks_answer_alike(rt: HostRuntime) -> Result<(), Fail> {
     Ok(())
 }
 
-/// Sets as many topics as there may be, and then one more when all but a quarter have expired. Copies stay as they are.
+/// Sets as many topics as there may be, and then one more when all but a quarter have expired.
 pub fn check_swept_grown(
     rt: &impl Abort,
     alloc: Global,
@@ -81,14 +113,11 @@ pub fn check_swept_grown(
     tree: &mut CalmCatalogue<TreeCatalogue>,
 ) -> Result<(), Fail> {
     for i in 0..1000 {
-        let kind = if i % 4 == 0 { 1 } else { 0 };
-        put_number(alloc, map, tree, i, kind)?;
+        put_number(alloc, map, tree, i, if i % 4 == 0 { 1 } else { 0 })?;
     }
-    let (old_map, old_tree) = (map.catalogue().copy()?, tree.catalogue().copy()?);
-    put_both(alloc, map, tree, b"late", LATE)?;
+    check_changed(rt, alloc, map, tree, Change::Late)?;
     assert!(rt; map.catalogue().count() == 251);
-    check_all_alike(rt, alloc, map.catalogue(), tree.catalogue(), FILTERS)?;
-    check_all_alike(rt, alloc, &old_map, &old_tree, FILTERS)
+    Ok(())
 }
 
 #[test]
@@ -96,53 +125,70 @@ fn wide_chunks_are_swept_alike(rt: HostRuntime) -> Result<(), Fail> {
     check_case(&rt, rt.alloc(), 1000, Case::SweptGrown)
 }
 
-/// Sets the topics of the numbers below 1,000. All but a quarter of the messages expire.
-fn set_all(
+/// Whether the Set of the topic of this number was taken.
+fn is_number_put(
     alloc: Global,
     tree: &mut CalmCatalogue<TreeCatalogue>,
-    last_serial: u64,
+    serial: u64,
+    number: u64,
+    kind: u64,
+) -> Result<bool, Fail> {
+    let name = name_of(alloc, number)?;
+    Ok(put(alloc, tree, serial, name.as_slice(), kind)?.is_ok())
+}
+
+fn new_tree(alloc: Global) -> Result<CalmCatalogue<TreeCatalogue>, Fail> {
+    let limit = TopicLimit::new(1000).ok_or("the limit")?;
+    Ok(CalmCatalogue::new(alloc, limit)?)
+}
+
+/// 1,000 topics are set, all but a quarter of which expire. Then one more is set a thousand times.
+fn check_dropped(
+    rt: &impl Abort,
+    alloc: Global,
+    tree: &mut CalmCatalogue<TreeCatalogue>,
 ) -> Result<(), Fail> {
     for i in 0..1000 {
-        let name = name_of(alloc, i)?;
         let kind = if i % 4 == 0 { 1 } else { 0 };
-        let serial = last_serial.wrapping_add(i).wrapping_add(1);
-        put(alloc, tree, serial, name.as_slice(), kind)??;
+        assert!(rt; is_number_put(alloc, tree, i + 1, i, kind)?);
     }
+    assert!(rt; tree.catalogue().remains() == 0);
+    assert!(rt; put(alloc, tree, 1001, b"late", LATE)?.is_ok());
+    assert!(rt; tree.catalogue().count() == 251);
+    assert!(rt; tree.catalogue().remains() > 0);
+    for serial in 1002..2000 {
+        assert!(rt; put(alloc, tree, serial, b"late", LATE)?.is_ok());
+    }
+    assert!(rt; tree.catalogue().count() == 251);
+    assert!(rt; tree.catalogue().remains() == 0);
     Ok(())
 }
 
 /// What a Sweep takes out of a tree that nothing shares is dropped by later entries, and then all of it.
 #[test]
 fn later_entries_drop_what_was_swept(rt: HostRuntime) -> Result<(), Fail> {
-    let alloc = rt.alloc();
-    let limit = TopicLimit::new(1000).ok_or("the limit")?;
-    let mut tree: CalmCatalogue<TreeCatalogue> = CalmCatalogue::new(alloc, limit)?;
-    set_all(alloc, &mut tree, 0)?;
-    assert!(rt; tree.catalogue().remains() == 0);
-    put(alloc, &mut tree, 1001, b"late", LATE)??;
-    assert!(rt; tree.catalogue().count() == 251);
-    assert!(rt; tree.catalogue().remains() > 0);
-    for serial in 1002..2000 {
-        put(alloc, &mut tree, serial, b"late", LATE)??;
+    let mut tree = new_tree(rt.alloc())?;
+    check_dropped(&rt, rt.alloc(), &mut tree)
+}
+
+/// 1,000 topics are set, and then each of as many more once one has expired.
+fn check_remains(
+    rt: &impl Abort,
+    alloc: Global,
+    tree: &mut CalmCatalogue<TreeCatalogue>,
+) -> Result<(), Fail> {
+    for i in 1..2000u64 {
+        let kind = if i < 1000 { 1 } else { 3 };
+        assert!(rt; is_number_put(alloc, tree, i, i, kind)?);
+        assert!(rt; tree.catalogue().remains() < 500);
     }
-    assert!(rt; tree.catalogue().count() == 251);
-    assert!(rt; tree.catalogue().remains() == 0);
+    assert!(rt; tree.catalogue().count() == 1000);
     Ok(())
 }
 
 /// A Set that needs a Sweep finds one message to take out, again and again. What is not dropped yet does not grow.
 #[test]
 fn sweeps_one_after_the_other_leave_no_more(rt: HostRuntime) -> Result<(), Fail> {
-    let alloc = rt.alloc();
-    let limit = TopicLimit::new(1000).ok_or("the limit")?;
-    let mut tree: CalmCatalogue<TreeCatalogue> = CalmCatalogue::new(alloc, limit)?;
-    for i in 1..1000u64 {
-        put(alloc, &mut tree, i, name_of(alloc, i)?.as_slice(), 1)??;
-    }
-    for i in 1000..2000u64 {
-        put(alloc, &mut tree, i, name_of(alloc, i)?.as_slice(), 3)??;
-        assert!(rt; tree.catalogue().remains() < 500);
-    }
-    assert!(rt; tree.catalogue().count() == 1000);
-    Ok(())
+    let mut tree = new_tree(rt.alloc())?;
+    check_remains(&rt, rt.alloc(), &mut tree)
 }

@@ -1,7 +1,7 @@
 use Rattle.std.proofs.Common.{ℕ, List, length, ap, subst, arith}
 use Rattle.std.proofs.lemmas.List.Elements.{All-more}
-use Rattle.rs_field.specs.Properties.{IsShort, property_bytes}
-use Rattle.rs_field.specs.Carried.{user_property}
+use Rattle.rs_property.specs.Properties.{IsShort, property_bytes}
+use Rattle.rs_property.specs.Carried.{user_property}
 use Rattle.rs_field.proofs.Written.{users_prefix, users_more}
 use Rattle.rs_field.proofs.properties.user_len.Goals as goal
 

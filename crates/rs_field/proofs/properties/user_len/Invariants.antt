@@ -1,8 +1,8 @@
 use Rattle.std.proofs.Common.{◌≡◌, take, length}
 use Rattle.std.specs.Prelude.{map}
 use Rattle.std.specs.List.{All, flat_map}
-use Rattle.rs_field.specs.Properties.{property_bytes, IsShort}
-use Rattle.rs_field.specs.Carried.{user_property}
+use Rattle.rs_property.specs.Properties.{property_bytes, IsShort}
+use Rattle.rs_property.specs.Carried.{user_property}
 use Rattle.rs_field.proofs.properties.user_len.Given as goal
 
 abbrev pub invariant-loop-pair : goal.invariant-loop-pair

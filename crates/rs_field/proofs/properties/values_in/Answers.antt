@@ -1,6 +1,6 @@
 use Rattle.std.proofs.Common.{length, ap, ◌∙◌}
 use Rattle.std.proofs.lemmas.Result.{err_from_is_err_and}
-use Rattle.rs_field.specs.Properties.{nothing, none_yet, number}
+use Rattle.rs_property.specs.Properties.{nothing, none_yet, number}
 use Rattle.rs_field.specs.Reading.{collect_on, properties_in}
 use Rattle.rs_field.proofs.PropertyLoop.{stepped, fails, done, some_left, none_left}
 use Rattle.rs_field.proofs.properties.values_in.Goals as goal

@@ -1,5 +1,5 @@
 use Rattle.std.proofs.Common.{length}
-use Rattle.rs_field.specs.Properties.{nothing, none_yet}
+use Rattle.rs_property.specs.Properties.{nothing, none_yet}
 use Rattle.rs_field.specs.Reading.{collect_on, properties_in}
 use Rattle.rs_field.proofs.PropertyLoop.{IsOnTheWay}
 use Rattle.rs_field.proofs.properties.values_in.Given as goal

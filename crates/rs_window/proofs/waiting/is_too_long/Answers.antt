@@ -1,5 +1,5 @@
 use Rattle.std.proofs.Common.{◌≡◌, ◌<◌, ◌^◌, ℕ, length, nat_lt, ap, ◌∙◌, List, arith}
-use Rattle.rs_packet.specs.Messages.{IsMessage}
+use Rattle.rs_message.specs.Messages.{IsMessage}
 use Rattle.rs_window.proofs.WaitingLemmas.{len_known, packet_fits}
 use Rattle.rs_window.proofs.waiting.is_too_long.Goals as goal
 

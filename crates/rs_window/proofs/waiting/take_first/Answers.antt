@@ -1,7 +1,7 @@
 use Rattle.std.proofs.Common.{◌≡◌, ◌≢◌, subst, ◌∙◌, refl, arith}
 use Rattle.std.specs.FinMap.{len}
-use Rattle.rs_packet.specs.declared.packet.Qos.{Qos}
-use Rattle.rs_packet.specs.declared.packet.Qos.TheVariants.{AtMostOnce}
+use Rattle.rs_message.specs.declared.qos.Qos.{Qos}
+use Rattle.rs_message.specs.declared.qos.Qos.TheVariants.{AtMostOnce}
 use Rattle.rs_window.specs.Identifiers.{kinds_of}
 use Rattle.rs_window.proofs.IdentifierLemmas.{len_kinds}
 use Rattle.rs_window.proofs.StepLemmas.{needs_quota}

@@ -1,5 +1,5 @@
 use Rattle.std.proofs.Common.{◌≡◌, ℕ, List, [], ◌∷◌, ◌++◌, sym, ◌∙◌}
-use Rattle.rs_packet.specs.declared.found.Found.{Found}
+use Rattle.rs_message.specs.declared.found.Found.{Found}
 use Rattle.rs_bucket.specs.Chains.{under_all}
 use Rattle.rs_topic.specs.Rests.{levels_from}
 use Rattle.rs_bucket.specs.Spots.{spot_of, under}
