@@ -85,7 +85,7 @@ fn a_change_that_finds_the_store_full_has_no_entry(rt: HostRuntime) -> Result<()
 }
 
 /// The outcomes at the place of `Together`.
-const TOGETHER: [(u64, u8); 13] = [
+const TOGETHER: &[(u64, u8)] = &[
     (1, 0),
     (2, 0),
     (4, 0),
@@ -113,7 +113,7 @@ fn each_change_of_a_job_has_its_own_outcome(rt: HostRuntime) -> Result<(), Fail>
         writing: Writing::All,
     };
     let ran = run(rt, setup)?;
-    assert!(rt; has_outcomes(&ran, 14, &TOGETHER) && !misses_replies(&ran));
+    assert!(rt; has_outcomes(&ran, 14, TOGETHER) && !misses_replies(&ran));
     assert!(rt; has_totals(&ran, 14, 1, 14) && is_settled(&ran, 14));
     Ok(())
 }

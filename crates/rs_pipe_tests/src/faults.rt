@@ -87,7 +87,7 @@ fn check_fault<H: Abort + Wait>(
 
 #[test]
 fn the_next_connection_is_served_after_a_failed_call(rt: HostRuntime) -> Result<(), Fail> {
-    for fault in &FAULTS {
+    for fault in FAULTS {
         check_fault(&rt, rt.alloc(), 1, fault)?;
     }
     Ok(())
@@ -96,7 +96,7 @@ fn the_next_connection_is_served_after_a_failed_call(rt: HostRuntime) -> Result<
 // If all packets come in one read, those behind the failed write are held, and are not handled.
 #[test]
 fn what_comes_behind_a_failed_write_is_not_handled(rt: HostRuntime) -> Result<(), Fail> {
-    for fault in &FAULTS {
+    for fault in FAULTS {
         if fault.call != Call::Read {
             check_fault(&rt, rt.alloc(), FIRST.len(), fault)?;
         }

@@ -23,7 +23,7 @@ const CLOSED: Result<Served, PipeFault> = Ok(Served::ClientClosed);
 // last line.
 type Row = (bool, Call, usize, usize, Result<Served, PipeFault>);
 
-const ROWS: [Row; 12] = [
+const ROWS: &[Row] = &[
     (false, Call::Read, 1, 29, READ),
     (false, Call::Read, 30, 30, CLOSED),
     (false, Call::Write, 1, 19, WRITE),
@@ -60,7 +60,7 @@ fn check_row<H: Abort + Wait>(rt: &H, alloc: Global, row: Row) -> Result<(), Fai
 #[test]
 fn the_fault_names_what_failed(rt: HostRuntime) -> Result<(), Fail> {
     for row in ROWS {
-        check_row(&rt, rt.alloc(), row)?;
+        check_row(&rt, rt.alloc(), *row)?;
     }
     Ok(())
 }

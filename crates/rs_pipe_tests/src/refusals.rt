@@ -13,7 +13,7 @@ use std::test::Fail;
 const PINGREQ: &[u8] = b"\xC0\x00";
 
 // A retained PUBLISH at QoS 0, 1 and 2, and what answers it if the session goes on, with the PINGRESP.
-const GOING_ON: [(&[u8], &[u8]); 3] = [
+const GOING_ON: &[(&[u8], &[u8])] = &[
     (b"\x31\x05\x00\x01a\x00x", b"\xD0\x00"),
     (
         b"\x33\x07\x00\x01a\x00\x01\x00x",
@@ -26,7 +26,7 @@ const GOING_ON: [(&[u8], &[u8]); 3] = [
 ];
 
 // The code of the DISCONNECT, in which each of these ends the session.
-const ENDING: [(SubmitFault, u8); 3] = [
+const ENDING: &[(SubmitFault, u8)] = &[
     (SubmitFault::Open, 0x97),
     (SubmitFault::Strange, 0x83),
     (SubmitFault::Closed, 0x83),
@@ -52,7 +52,8 @@ fn check_answered<H: Abort + Wait>(
 #[test]
 fn a_store_that_refuses_leaves_the_session_open(rt: HostRuntime) -> Result<(), Fail> {
     for fault in [SubmitFault::Full, SubmitFault::NoMemory] {
-        for (publish, replies) in GOING_ON {
+        for row in GOING_ON {
+            let (publish, replies) = *row;
             check_answered(&rt, rt.alloc(), fault, publish, replies, Served::EndOfInput)?;
         }
     }
@@ -61,8 +62,10 @@ fn a_store_that_refuses_leaves_the_session_open(rt: HostRuntime) -> Result<(), F
 
 #[test]
 fn a_store_without_receipt_ends_the_session(rt: HostRuntime) -> Result<(), Fail> {
-    for (fault, code) in ENDING {
-        for (publish, _) in GOING_ON {
+    for ending in ENDING {
+        let (fault, code) = *ending;
+        for row in GOING_ON {
+            let (publish, _) = *row;
             let ends = Served::ServerClosed(code);
             check_answered(&rt, rt.alloc(), fault, publish, &[0xE0, 0x01, code], ends)?;
         }

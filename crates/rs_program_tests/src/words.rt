@@ -123,7 +123,7 @@ fn words_ask_to_listen(rt: HostRuntime) -> Result<(), Fail> {
 }
 
 // Each refused command line, and what the text says.
-const REFUSED: [(&str, &str); 33] = [
+const REFUSED: &[(&str, &str)] = &[
     ("", "requires a subcommand"),
     ("more", "unrecognized subcommand 'more'"),
     ("pipe", "--at <SECONDS>"),
@@ -239,7 +239,8 @@ fn is_shown(alloc: Global, command: &str, status: u8, part: &str) -> Result<bool
 
 #[test]
 fn words_are_refused(rt: HostRuntime) -> Result<(), Fail> {
-    for (command, why) in REFUSED {
+    for row in REFUSED {
+        let (command, why) = *row;
         assert!(rt; is_shown(rt.alloc(), command, 2, why)?, "{command}");
     }
     Ok(())

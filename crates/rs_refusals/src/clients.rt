@@ -273,7 +273,7 @@ fn worked<H: Wait + Threads + Copy + Send + Sync + 'static>(
 }
 
 /// How many clients submit: two, all topics one by one, or in bursts of six; or six, of which each submits one topic of a group.
-const GROUPINGS: [(u64, Grouping); 3] = [
+const GROUPINGS: &[(u64, Grouping)] = &[
     (
         2,
         Grouping {
@@ -307,7 +307,8 @@ pub fn work<H: Wait + Threads + Copy + Send + Sync + 'static>(
     alloc: Global,
 ) -> Result<Vec<u64>, Failure> {
     let mut all = Vec::with_capacity(alloc, GROUPINGS.len())?;
-    for (clients, grouping) in GROUPINGS {
+    for row in GROUPINGS {
+        let (clients, grouping) = *row;
         all.push(worked(*rt, alloc, clients, grouping)?)?;
     }
     summed(alloc, all.as_slice())

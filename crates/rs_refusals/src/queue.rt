@@ -125,7 +125,7 @@ fn worked<H: Wait + Threads + Copy + Send + Sync + 'static>(
 
 /// All topics one by one, and none after one whose entry is held; all of them one by one; all of them, three in a job; all in one job,
 /// whose replies are two messages if the writer waited for it.
-const GROUPINGS: [Grouping; 4] = [
+const GROUPINGS: &[Grouping] = &[
     Grouping {
         groups: 24,
         size: 1,
@@ -155,7 +155,7 @@ pub fn work<H: Wait + Threads + Copy + Send + Sync + 'static>(
 ) -> Result<Vec<u64>, Failure> {
     let mut all = Vec::with_capacity(alloc, GROUPINGS.len())?;
     for grouping in GROUPINGS {
-        all.push(worked(*rt, alloc, grouping)?)?;
+        all.push(worked(*rt, alloc, *grouping)?)?;
     }
     summed(alloc, all.as_slice())
 }

@@ -24,7 +24,7 @@ const ROW: u32 = 3;
 const INTERVAL: u32 = TOPICS / ROW;
 
 /// All topics, those of one house, and some whose levels lie on both sides of a branch that a Clear joins to its only child.
-const FILTERS: [&[u8]; 4] = [b"#", b"000002/#", b"+/door/main/+", b"+/+/side3"];
+const FILTERS: &[&[u8]] = &[b"#", b"000002/#", b"+/door/main/+", b"+/+/side3"];
 
 /// What a tree shows: the last is what each of the filters finds.
 #[derive(Drop)]

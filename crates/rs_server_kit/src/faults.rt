@@ -40,7 +40,7 @@ pub struct Fault {
     pub is_kept: bool,
 }
 
-pub const FAULTS: [Fault; 10] = [
+pub const FAULTS: &[Fault] = &[
     Fault {
         call: Call::Read,
         first: 1,

@@ -57,7 +57,7 @@ impl Gate for Recording {
 
 /// At QoS 0, 1 and 2 a PUBLISH with RETAIN 1 to `a` with the payload `x`, one with an empty payload, and the replies if the
 /// gate keeps it and if its store is full.
-const PUBLISHED: [(&[u8], &[u8], &[u8], &[u8]); 3] = [
+const PUBLISHED: &[(&[u8], &[u8], &[u8], &[u8])] = &[
     (
         b"\x31\x05\x00\x01a\x00x",
         b"\x31\x04\x00\x01a\x00",
@@ -79,10 +79,10 @@ const PUBLISHED: [(&[u8], &[u8], &[u8], &[u8]); 3] = [
 ];
 
 /// The faults that leave the session open.
-const LEAVING_OPEN: [SubmitFault; 2] = [SubmitFault::Full, SubmitFault::NoMemory];
+const LEAVING_OPEN: &[SubmitFault] = &[SubmitFault::Full, SubmitFault::NoMemory];
 
 /// The faults that end it, and the DISCONNECT then.
-const ENDING: [(SubmitFault, &[u8]); 3] = [
+const ENDING: &[(SubmitFault, &[u8])] = &[
     (SubmitFault::Open, b"\xE0\x01\x97"),
     (SubmitFault::Strange, b"\xE0\x01\x83"),
     (SubmitFault::Closed, b"\xE0\x01\x83"),
@@ -161,7 +161,8 @@ fn check_handed(
 
 #[test]
 fn what_is_kept_was_handed_over(rt: HostRuntime) -> Result<(), Fail> {
-    for (set, clear, kept, _) in PUBLISHED {
+    for row in PUBLISHED {
+        let (set, clear, kept, _) = *row;
         check_handed(&rt, rt.alloc(), None, set, clear, kept)?;
     }
     Ok(())
@@ -170,8 +171,9 @@ fn what_is_kept_was_handed_over(rt: HostRuntime) -> Result<(), Fail> {
 #[test]
 fn what_a_full_store_refuses_was_handed_over(rt: HostRuntime) -> Result<(), Fail> {
     for fault in LEAVING_OPEN {
-        for (set, clear, _, refused) in PUBLISHED {
-            check_handed(&rt, rt.alloc(), Some(fault), set, clear, refused)?;
+        for row in PUBLISHED {
+            let (set, clear, _, refused) = *row;
+            check_handed(&rt, rt.alloc(), Some(*fault), set, clear, refused)?;
         }
     }
     Ok(())
@@ -179,8 +181,10 @@ fn what_a_full_store_refuses_was_handed_over(rt: HostRuntime) -> Result<(), Fail
 
 #[test]
 fn what_has_no_receipt_was_handed_over(rt: HostRuntime) -> Result<(), Fail> {
-    for (fault, disconnect) in ENDING {
-        for (set, clear, _, _) in PUBLISHED {
+    for ending in ENDING {
+        let (fault, disconnect) = *ending;
+        for row in PUBLISHED {
+            let (set, clear, _, _) = *row;
             check_handed(&rt, rt.alloc(), Some(fault), set, clear, disconnect)?;
         }
     }

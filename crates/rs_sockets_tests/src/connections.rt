@@ -210,7 +210,7 @@ const FAILED: Outcome = Outcome {
 /// and how many replies.
 type Row = (&'static [Step], u64, usize, u64, u64, u64);
 
-const ROWS: [Row; 8] = [
+const ROWS: &[Row] = &[
     // What there is room for is kept, and the next reply finds none.
     (
         &[
@@ -307,7 +307,8 @@ const ROWS: [Row; 8] = [
 #[test]
 fn replies_go_out_together(rt: HostRuntime) {
     assert!(rt; MAX_GATHERED == 65_536);
-    for (steps, reads, takes, fails_at, writes, replies) in ROWS {
+    for row in ROWS {
+        let (steps, reads, takes, fails_at, writes, replies) = *row;
         let manner = Manner {
             reads,
             takes,
@@ -349,7 +350,7 @@ fn an_end_does_not_write_again(rt: HostRuntime) {
 
 /// By how many milliseconds the clock goes on, how many bytes a read gives, how many reads do, whether the next one fails, and how many
 /// bytes are discarded.
-const ENDS: [(u64, usize, u64, bool, u64); 6] = [
+const ENDS: &[(u64, usize, u64, bool, u64)] = &[
     // Its end, or a read that waits too long.
     (0, 700, 3, false, 2_100),
     (0, 1, 5_000, true, 5_000),
@@ -364,7 +365,8 @@ const ENDS: [(u64, usize, u64, bool, u64); 6] = [
 #[test]
 fn only_so_much_is_discarded(rt: HostRuntime) {
     assert!(rt; MAX_DISCARDED == 1_048_576);
-    for (tick, sends, reads, breaks, discarded) in ENDS {
+    for row in ENDS {
+        let (tick, sends, reads, breaks, discarded) = *row;
         let manner = Manner {
             reads,
             sends,

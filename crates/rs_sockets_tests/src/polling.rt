@@ -11,7 +11,7 @@ use std::sync::atomic::{AtomicU32, Ordering};
 /// whether the next one polls if the client was answered.
 type Row = (&'static [(u32, bool, usize)], bool);
 
-const ROWS: [Row; 14] = [
+const ROWS: &[Row] = &[
     // One of 128, at first and if polling gains nothing.
     (&[], false),
     (&[(125, false, 60)], false),
@@ -36,10 +36,11 @@ const ROWS: [Row; 14] = [
 
 #[test]
 fn few_reads_poll_in_vain(rt: HostRuntime) {
-    for (reads, polls) in ROWS {
+    for row in ROWS {
+        let (reads, polls) = *row;
         let mut patience = ReadPatience::new();
-        for row in reads {
-            let (count, has_gained, size) = *row;
+        for some in reads {
+            let (count, has_gained, size) = *some;
             for _ in 0..count {
                 patience.learn(has_gained, size);
             }
@@ -108,7 +109,7 @@ fn all_go(alloc: Global, pollers: u32, reads: &'static [Reads]) -> Option<bool> 
 }
 
 /// How many may poll at the same time, and the reads.
-const SCRIPTS: [(u32, &[Reads]); 8] = [
+const SCRIPTS: &[(u32, &[Reads])] = &[
     // Each may poll if the one before it has ended that.
     (1, &[FIRST, Reads { count: 300, ..SOON }]),
     (
@@ -222,7 +223,8 @@ const SCRIPTS: [(u32, &[Reads]); 8] = [
 #[test]
 fn a_read_polls_while_it_pays(rt: HostRuntime) {
     let alloc = rt.alloc();
-    for (pollers, reads) in SCRIPTS {
+    for script in SCRIPTS {
+        let (pollers, reads) = *script;
         assert!(rt; all_go(alloc, pollers, reads) == Some(true));
     }
 }

@@ -196,7 +196,7 @@ const WRITE: ServeResult = Err(ServeFault::Write);
 
 /// Publications go to the writer by 32, or as many as are read: the first read ends behind the hundredth. Of those that went together all
 /// are kept, though the client hears of some only.
-const BREAKS: [Break; 5] = [
+const BREAKS: &[Break] = &[
     (5, 0, Ok(Served::CutInput), 149, 149),
     (0, 65, WRITE, 63, 64),
     (0, 66, WRITE, 64, 96),
@@ -231,9 +231,9 @@ fn is_kept<R: Threads + Wait + Copy + Send + Sync + 'static>(
 fn what_was_acknowledged_of_a_broken_burst_is_kept(rt: HostRuntime) -> Result<(), Fail> {
     let alloc = rt.alloc();
     for broken in BREAKS {
-        let (_missing, at, _ends, _acknowledged, _kept) = broken;
+        let (_missing, at, _ends, _acknowledged, _kept) = *broken;
         for is_shared in [false, true] {
-            let kept = is_kept(rt, alloc, broken, is_shared)?;
+            let kept = is_kept(rt, alloc, *broken, is_shared)?;
             assert!(rt; kept, "{at} {is_shared}");
         }
     }

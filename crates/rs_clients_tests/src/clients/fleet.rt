@@ -149,7 +149,7 @@ fn wanted(crowd: Crowd) -> Played {
     as_wanted(threads, clients, changes, changes)
 }
 
-const CROWDS: [Crowd; 7] = [
+const CROWDS: &[Crowd] = &[
     Crowd {
         places: 4,
         clients: 100,

@@ -94,7 +94,7 @@ fn places_without_clients_end(rt: HostRuntime) -> Result<(), Fail> {
     Ok(())
 }
 
-const MANNERS: [Manner; 7] = [
+const MANNERS: &[Manner] = &[
     Manner::InOrder,
     Manner::Late,
     Manner::InOneLane,
@@ -112,7 +112,7 @@ fn clients_are_served_however_they_are_told_of(rt: HostRuntime) -> Result<(), Fa
     for manner in MANNERS {
         let counts = Arc::new(alloc, Counts::new())?;
         let turns = clients(alloc, &counts, PLAIN, 8, (3, 4))?;
-        let ran = share_as(rt, alloc, (10_000, 3), turns, &counts, manner)?;
+        let ran = share_as(rt, alloc, (10_000, 3), turns, &counts, *manner)?;
         assert!(rt; ran == as_wanted(3, 24, 96, 96), "{manner:?}");
     }
     Ok(())

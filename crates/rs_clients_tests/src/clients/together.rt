@@ -226,7 +226,7 @@ fn is_right<R: Threads + Wait + Copy + Send + Sync + 'static>(
 /// The writer takes one job, and no further one.
 const ONE_JOB: u64 = 1;
 
-const ROWS: [Row; 10] = [
+const ROWS: &[Row] = &[
     // In the order of the announcements, and in others.
     Row {
         clients: 3,

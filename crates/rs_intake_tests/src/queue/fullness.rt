@@ -15,7 +15,7 @@ use std::test::Fail;
 use std::thread::{Threads, spawn};
 
 /// Changes of a store of two topics, the code of the fault that each is answered, or 0, and whether the store is shown to be full then.
-const STEPS: [(Act, u8, bool); 13] = [
+const STEPS: &[(Act, u8, bool)] = &[
     (Act::Set(*b"a0", *b"00", 0, None), 0, false),
     // It holds as many topics as it may, and has refused none.
     (Act::Set(*b"b0", *b"01", 0, None), 0, false),
@@ -44,11 +44,11 @@ fn right_steps<N: LineName, R: Wait>(
 ) -> Option<usize> {
     let mut right = 0usize;
     for (act, code, is_full) in STEPS {
-        let answered = match Intake::new().submit(rt, line, operation_of(alloc, act)?) {
+        let answered = match Intake::new().submit(rt, line, operation_of(alloc, *act)?) {
             Ok(_) => 0,
             Err(fault) => fault.code(),
         };
-        if (answered, fullness.is_full()) == (code, is_full) {
+        if answered == *code && fullness.is_full() == *is_full {
             right = right.saturating_add(1);
         }
     }

@@ -25,7 +25,7 @@ const WRITE: ServeResult = Err(ServeFault::Write);
 /// publications were kept. Once they were announced, all are.
 type Fault = (usize, ServeResult, usize, bool);
 
-const FAULTS: [Fault; 5] = [
+const FAULTS: &[Fault] = &[
     (0, INPUT, 27, true),
     (1, WRITE, 0, false),
     (2, WRITE, 15, true),
@@ -53,7 +53,8 @@ fn rows(at: usize, ends: ServeResult, written: usize, kept: bool) -> [Row<'stati
 /// connection of the place reads them, and the one after it publishes.
 #[test]
 fn publications_of_one_piece_are_kept_together(rt: HostRuntime) -> Result<(), Fail> {
-    for (at, ends, written, kept) in FAULTS {
+    for fault in FAULTS {
+        let (at, ends, written, kept) = *fault;
         let changes = if kept { 4 } else { 1 };
         let rows = rows(at, ends, written, kept);
         let ran = play(rt, rt.alloc(), 7, 1, &rows)?;

@@ -29,7 +29,7 @@ fn rows(fault: &Fault, at: usize) -> [Row<'static>; 3] {
 
 #[test]
 fn the_next_connections_are_served_after_a_failed_call(rt: HostRuntime) -> Result<(), Fail> {
-    for fault in &FAULTS {
+    for fault in FAULTS {
         let call = fault.call;
         let changes = if fault.is_kept { 2 } else { 1 };
         for at in fault.first..=fault.last {

@@ -12,7 +12,7 @@ use std::alloc::{AllocError, Global};
 use std::test::Fail;
 
 /// What a client sends after its CONNECT, and what it is sent after the CONNACK.
-const PEERS: [(&[u8], &[u8]); 15] = [
+const PEERS: &[(&[u8], &[u8])] = &[
     // A second CONNECT.
     (CONNECT, b"\xE0\x01\x82"),
     // Fixed headers that no client sends.
@@ -62,7 +62,8 @@ fn peer(sent: &'static [u8], replies: &'static [u8]) -> Row<'static> {
 fn rows(alloc: Global) -> Result<Vec<Row<'static>>, AllocError> {
     let mut rows = Vec::new(alloc);
     rows.push(plain_row(PLAIN, PUBLISHES, NONE))?;
-    for (sent, replies) in PEERS {
+    for row in PEERS {
+        let (sent, replies) = *row;
         rows.push(peer(sent, replies))?;
     }
     rows.push(plain_row(PLAIN, PUBLISHES, NONE))?;

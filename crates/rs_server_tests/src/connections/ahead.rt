@@ -37,7 +37,7 @@ fn cut_at(bytes: &[u8], at: usize) -> Cut<'_> {
 }
 
 /// How many changes the gates of these tests take at once.
-const MOSTS: [usize; 6] = [0, 1, 2, 3, 5, 64];
+const MOSTS: &[usize] = &[0, 1, 2, 3, 5, 64];
 
 /// CONNECT; PUBLISH with RETAIN 1 to `a`, `b` (QoS 1) and again `a`, with an empty payload; PINGREQ; one to `c` of QoS 2 and its PUBREL;
 /// one to `b` (QoS 1); one with RETAIN 0; two with RETAIN 1 to `d`, with an interval of 100 seconds, and `e`; SUBSCRIBE to all; one to `d`
@@ -64,7 +64,7 @@ const EXPIRED: &[u8] = b"\x90\x04\x00\x01\x00\x00\x31\x05\x00\x01e\x00y\xD0\x00"
 
 /// What bursts are mixed of: PUBLISH with RETAIN 1 to `a`, to `b` with an empty payload, to `c` of QoS 1 and of QoS 2 with its PUBREL, to
 /// `d` with an interval of 9 seconds; one with RETAIN 0; PINGREQ; SUBSCRIBE to all at QoS 0, and UNSUBSCRIBE.
-const MIXED: [&[u8]; 16] = [
+static MIXED: [&[u8]; 16] = [
     b"\x31\x05\x00\x01a\x00x",
     b"\x31\x05\x00\x01a\x00y",
     b"\x31\x05\x00\x01b\x00x",
@@ -208,7 +208,7 @@ fn is_met<H: Wait>(
     wanted: &Outcome,
 ) -> Result<bool, Fail> {
     for way in WAYS {
-        if !is_met_by(rt, alloc, sent, most, wanted, way)? {
+        if !is_met_by(rt, alloc, sent, most, wanted, *way)? {
             return Ok(false);
         }
     }
@@ -223,7 +223,7 @@ fn look_ahead_changes_no_reply(rt: HostRuntime) -> Result<(), Fail> {
     for at in 0..=SENT.len() {
         for most in MOSTS {
             assert!(rt;
-                is_met(&rt, rt.alloc(), cut_at(SENT, at), most, &wanted)?,
+                is_met(&rt, rt.alloc(), cut_at(SENT, at), *most, &wanted)?,
                 "{most} at {at}"
             );
         }
@@ -239,7 +239,7 @@ fn look_ahead_changes_no_end(rt: HostRuntime) -> Result<(), Fail> {
         let wanted = plain(&rt, rt.alloc(), sent)?;
         for most in MOSTS {
             assert!(rt;
-                is_met(&rt, rt.alloc(), sent, most, &wanted)?,
+                is_met(&rt, rt.alloc(), sent, *most, &wanted)?,
                 "{most} to {end}"
             );
         }
@@ -251,7 +251,7 @@ fn look_ahead_changes_no_end(rt: HostRuntime) -> Result<(), Fail> {
 fn times_stay_in_order(rt: HostRuntime) -> Result<(), Fail> {
     for most in MOSTS {
         for way in WAYS {
-            let (outcome, _gate) = told(&rt, rt.alloc(), cut_at(EXPIRING, 0), most, way)?;
+            let (outcome, _gate) = told(&rt, rt.alloc(), cut_at(EXPIRING, 0), *most, *way)?;
             assert!(rt;
                 is_concat(&outcome.written, &[CONNACK, EXPIRED]),
                 "{most} {way:?}"
@@ -271,7 +271,7 @@ fn bursts_are_answered_alike(rt: HostRuntime) -> Result<(), Fail> {
         assert!(rt; wanted.served == Ok(Served::EndOfInput));
         for most in MOSTS {
             assert!(rt;
-                is_met_by(&rt, rt.alloc(), sent, most, &wanted, Way::AtOnce)?,
+                is_met_by(&rt, rt.alloc(), sent, *most, &wanted, Way::AtOnce)?,
                 "{most} at {at}"
             );
         }
@@ -378,12 +378,13 @@ fn one_change_is_announced_when_it_is_read(rt: HostRuntime) -> Result<(), Fail> 
 
 /// How many changes a gate takes at once, for how many inputs the clock is asked if the first change ends the session, and how many
 /// changes are still expected then.
-const LEFT: [(usize, u64, usize); 5] = [(0, 2, 0), (1, 2, 0), (2, 3, 1), (5, 6, 1), (64, 65, 31)];
+const LEFT: &[(usize, u64, usize)] = &[(0, 2, 0), (1, 2, 0), (2, 3, 1), (5, 6, 1), (64, 65, 31)];
 
 #[test]
 fn no_more_is_decoded_than_a_gate_takes(rt: HostRuntime) -> Result<(), Fail> {
     let bytes = two_runs(rt.alloc(), 100, 0)?;
-    for (most, decoded, left) in LEFT {
+    for row in LEFT {
+        let (most, decoded, left) = *row;
         for way in WAYS {
             let refusing = Refusing {
                 fault: SubmitFault::Closed,
@@ -391,7 +392,7 @@ fn no_more_is_decoded_than_a_gate_takes(rt: HostRuntime) -> Result<(), Fail> {
             };
             let gate = Expecting::new(rt.alloc(), refusing, most);
             let sent = cut_at(&bytes, CONNECT.len());
-            let (outcome, gate) = serve_over(&rt, rt.alloc(), sent, gate, way)?;
+            let (outcome, gate) = serve_over(&rt, rt.alloc(), sent, gate, *way)?;
             assert!(rt; outcome.served == Ok(Served::ServerClosed(0x83)));
             assert!(rt; outcome.handled == 2, "{most} {way:?}");
             assert!(rt; outcome.told == decoded, "{most} {way:?}");

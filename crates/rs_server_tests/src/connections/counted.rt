@@ -7,7 +7,7 @@ use std::io;
 use std::io::{ErrorKind, Read, Write};
 use std::test::Fail;
 
-const BYTES: [u8; 5] = [1, 2, 3, 4, 5];
+static BYTES: [u8; 5] = [1, 2, 3, 4, 5];
 
 // Ends each call as it is told, by an error or by a number of bytes, and notes the length of each slice.
 #[derive(Drop)]

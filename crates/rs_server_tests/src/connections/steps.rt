@@ -17,7 +17,7 @@ pub(super) enum Way {
     InSteps,
 }
 
-pub(super) const WAYS: [Way; 2] = [Way::AtOnce, Way::InSteps];
+pub(super) const WAYS: &[Way] = &[Way::AtOnce, Way::InSteps];
 
 /// What a connection comes to if it is served this way: how it ended, the gate, and how many inputs were handled.
 pub(super) fn serve_by<H: Wait, R: Read, W: Write, G: Gate, C: Clock>(

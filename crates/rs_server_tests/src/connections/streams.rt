@@ -91,7 +91,7 @@ fn is_written(narrow: &Narrow, wanted: &Outcome) -> bool {
 /// Whether this is answered, in whatever way the connection is served.
 fn is_served<H: Wait>(rt: &H, alloc: Global, script: &Script, wanted: &Outcome) -> bool {
     for way in WAYS {
-        if !is_served_by(rt, alloc, script, wanted, way) {
+        if !is_served_by(rt, alloc, script, wanted, *way) {
             return false;
         }
     }

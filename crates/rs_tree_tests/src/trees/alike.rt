@@ -67,7 +67,7 @@ impl Draw {
 /// A level of more bytes than a node of the tree has room for.
 const LONG: &[u8] = b"a.long.level.of.26.bytes.a";
 
-const NAME_LEVELS: [&[u8]; 8] = [b"a", b"a", b"b", b"", b"$s", LONG, b"$", b"aa"];
+static NAME_LEVELS: [&[u8]; 8] = [b"a", b"a", b"b", b"", b"$s", LONG, b"$", b"aa"];
 
 /// Levels of a topic name. Long names share most of theirs.
 pub fn name_of(alloc: Global, draw: &mut Draw) -> Result<Vec<u8>, Fail> {
@@ -86,7 +86,7 @@ pub fn name_of(alloc: Global, draw: &mut Draw) -> Result<Vec<u8>, Fail> {
     Ok(name)
 }
 
-const FILTER_LEVELS: [&[u8]; 8] = [b"+", b"a", b"+", b"b", b"", b"$s", b"+", LONG];
+static FILTER_LEVELS: [&[u8]; 8] = [b"+", b"a", b"+", b"b", b"", b"$s", b"+", LONG];
 
 /// Levels of a topic filter.
 fn filter_of(alloc: Global, draw: &mut Draw) -> Result<Vec<u8>, Fail> {

@@ -96,7 +96,7 @@ fn put_below(
     put_both(alloc, map, tree, whole.as_slice(), kind)
 }
 
-const LASTS: [&[u8]; 9] = [b"", b"/1", b"/2", b"/3", b"/4", b"/5", b"/6", b"/7", b"/8"];
+const LASTS: &[&[u8]] = &[b"", b"/1", b"/2", b"/3", b"/4", b"/5", b"/6", b"/7", b"/8"];
 
 /// Sets a topic and eight below it, which are then cleared.
 fn check_left_alone(

@@ -9,7 +9,7 @@ use std::process::Abort;
 use std::test::Fail;
 
 /// What stands behind a row of `x`: nothing, bytes that lie before it, and such as lie behind it, two of them above 127.
-const ENDS: [&[u8]; 6] = [b"", b"!", b"w", b"y", b"\xc3\xa9", b"\xf4\x8f\xbf\xbf"];
+static ENDS: [&[u8]; 6] = [b"", b"!", b"w", b"y", b"\xc3\xa9", b"\xf4\x8f\xbf\xbf"];
 
 /// Each end behind 0 to 17 bytes.
 const LEVELS: u64 = 6 * 18;
