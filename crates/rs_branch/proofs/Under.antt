@@ -7,7 +7,7 @@ use Rattle.std.specs.Cmp.Lexicographic.{slice_cmp}
 use Rattle.std.specs.Ordering.{nat_cmp, is_eq}
 use Rattle.rs_bucket.specs.Spots.{IsFull, under, is_there}
 use Rattle.rs_bucket.proofs.Spots.{Path, Spots}
-use Rattle.std.specs.Prelude.{IfOk}
+use Rattle.std.specs.Prelude.{IfOk, OnErr}
 use Rattle.std.specs.declared.cmp.Ordering.{Ordering}
 use Rattle.std.specs.declared.cmp.Ordering.TheVariants.{Less, Equal, Greater}
 use Rattle.std.proofs.lemmas.Cmp.{nat_list_cmp_total, tied_itself}
@@ -71,6 +71,10 @@ same_child q p (s ∷ ss) rest h = at (path_cmp p s.0) refl (same_child q p ss r
 
 pub there_one : (q : List ℕ) (p : Path) (w : Spots) → is_there (q ∷ p) (under q w) ≡ is_there p w
 there_one q p w = ap (is_there (q ∷ p)) (sym (append-nil (under q w))) ∙ same_child q p w [] refl
+
+pub if_err : {T E P : Type 0} (r : Result T E) → P → OnErr r P
+if_err (Ok x) p = tt
+if_err (Err x) p = p
 
 pub was_by : {E : Type 0} (r : Result Bool E) (a b : Bool) → IfOk r (λ w. w ≡ a) → a ≡ b → IfOk r (λ w. w ≡ b)
 was_by (Ok x) a b h e = h ∙ e

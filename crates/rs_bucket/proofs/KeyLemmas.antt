@@ -1,13 +1,12 @@
 -- The order of short levels, by their keys.
-use Rattle.std.proofs.Common.{◌≡◌, ℕ, zero, suc, ◌+◌, ◌*◌, ◌<◌, ◌≤◌, List, [], ◌∷◌, ◌++◌, length, get_or, take, drop, refl, sym, ap, ◌∙◌, arith, length-append, length-drop, length-take-le, drop-cons, set, take_all}
+use Rattle.std.proofs.Common.{◌≡◌, ℕ, zero, suc, ◌+◌, ◌*◌, ◌%◌, ◌^◌, ◌<◌, ◌≤◌, List, [], ◌∷◌, ◌++◌, length, get_or, take, drop, refl, sym, ap, ◌∙◌, arith, length-append, length-take-le, drop-cons, set, take_all, take-suc, add-one, mul_assoc, Fits, w8}
 use Rattle.std.specs.Cmp.Lexicographic.{slice_cmp}
 use Rattle.std.specs.Cmp.{nat_cmp_is, ranks}
 use Rattle.std.specs.Ordering.{MatchOrdering, nat_cmp, ordering_reverse, ordering_then}
 use Rattle.std.specs.declared.cmp.Ordering.{Ordering}
 use Rattle.std.specs.declared.cmp.Ordering.TheVariants.{Less, Equal, Greater}
 use Rattle.std.proofs.lemmas.Cmp.{nat_list_cmp_total}
-use Rattle.std.proofs.lemmas.List.{take-append-le, drop-append-le}
-use Rattle.std.specs.Int.{w64, from_be_bytes}
+use Rattle.std.proofs.lemmas.Nat.{pow-add, shl_below, shl_whole}
 use Rattle.rs_bucket.specs.Keys.{AreBytes, IsKey, key_cmp, padded, spelt, word}
 use Rattle.rs_bucket.specs.declared.key.Key.{Key}
 
@@ -46,9 +45,6 @@ spelt_cmp a (x ∷ xs) (y ∷ ys) same p q = at (nat_cmp x y) refl (ranks x y) (
     at Greater is l rest =
         ap (λ o. ordering_then o (cmp xs ys)) is ∙ sym (greater_is _ _ (spelt_rises (a * 256 + y) (a * 256 + x) ys xs (omega arith) q.1 (omega (arith, l))))
 
-spelt_is : (a b c d e f g h : ℕ) → from_be_bytes w64 (a ∷ b ∷ c ∷ d ∷ e ∷ f ∷ g ∷ h ∷ []) ≡ spelt 0 (a ∷ b ∷ c ∷ d ∷ e ∷ f ∷ g ∷ h ∷ [])
-spelt_is a b c d e f g h = omega arith
-
 -- ---- levels, and their words
 
 shorter_less : (n l m : ℕ) (ys : List ℕ) → l < m → cmp (padded n [] ++ l ∷ []) (padded n ys ++ m ∷ []) ≡ Less
@@ -76,25 +72,6 @@ padded_cmp (suc n) k l m (x ∷ xs) [] p q a b = sym (longer_greater (suc n) m l
 padded_cmp (suc n) k l m (x ∷ xs) (y ∷ ys) p q a b =
     ap (ordering_then (nat_cmp x y)) (padded_cmp n (k + 1) l m xs ys (omega arith) (omega arith) (omega arith) (omega arith))
 
--- ---- a front and a back that share an element
-
-both_ways : (o p q : Ordering) → ordering_then o (ordering_then p q) ≡ ordering_then (ordering_then o p) q
-both_ways Less p q = refl
-both_ways Equal p q = refl
-both_ways Greater p q = refl
-
-twice : (o q : Ordering) → ordering_then o q ≡ ordering_then (ordering_then o Equal) (ordering_then o q)
-twice Less q = refl
-twice Equal q = refl
-twice Greater q = refl
-
-overlap : (i : ℕ) (us vs : List ℕ) → length us ≡ length vs → i < length us → cmp us vs ≡ ordering_then (cmp (take (suc i) us) (take (suc i) vs)) (cmp (drop i us) (drop i vs))
-overlap i [] vs same l = absurd (omega arith)
-overlap i (u ∷ us) [] same l = absurd (omega arith)
-overlap zero (u ∷ us) (v ∷ vs) same l = twice (nat_cmp u v) (cmp us vs)
-overlap (suc i) (u ∷ us) (v ∷ vs) same l =
-    ap (ordering_then (nat_cmp u v)) (overlap i us vs (omega arith) (omega arith)) ∙ both_ways (nat_cmp u v) _ _
-
 -- ---- keys
 
 pub are_bytes : (xs : List ℕ) → ((k : ℕ) → get_or xs k 0 < 256) → AreBytes xs
@@ -115,58 +92,23 @@ are_front zero xs p = tt
 are_front (suc i) [] p = tt
 are_front (suc i) (x ∷ xs) p = (p.0, are_front i xs p.1)
 
-are_back : (i : ℕ) (xs : List ℕ) → AreBytes xs → AreBytes (drop i xs)
-are_back zero xs p = p
-are_back (suc i) [] p = tt
-are_back (suc i) (x ∷ xs) p = are_back i xs p.1
-
 pub length_padded : (n : ℕ) (xs : List ℕ) → length (padded n xs) ≡ n
 length_padded zero xs = refl
 length_padded (suc n) [] = omega (arith, length_padded n [])
 length_padded (suc n) (x ∷ xs) = omega (arith, length_padded n xs)
 
-length_word : (level : List ℕ) → length (word level) ≡ 15
-length_word level = omega (arith, length-append (padded 14 level) (length level ∷ []), length_padded 14 level)
-
-length_front : (i : ℕ) (us vs : List ℕ) → length us ≡ length vs → length (take i us) ≡ length (take i vs)
-length_front zero us vs same = refl
-length_front (suc i) [] [] same = refl
-length_front (suc i) [] (v ∷ vs) same = absurd (omega arith)
-length_front (suc i) (u ∷ us) [] same = absurd (omega arith)
-length_front (suc i) (u ∷ us) (v ∷ vs) same = omega (arith, length_front i us vs (omega arith))
-
-length_back : (i : ℕ) (us vs : List ℕ) → length us ≡ length vs → length (drop i us) ≡ length (drop i vs)
-length_back zero us vs same = same
-length_back (suc i) [] [] same = refl
-length_back (suc i) [] (v ∷ vs) same = absurd (omega arith)
-length_back (suc i) (u ∷ us) [] same = absurd (omega arith)
-length_back (suc i) (u ∷ us) (v ∷ vs) same = length_back i us vs (omega arith)
-
 are_word : (level : List ℕ) → AreBytes level → length level ≤ 14 → AreBytes (word level)
-are_word level p h = are_both (padded 14 level) (length level) (are_padded 14 level p) (omega arith)
+are_word level p h = are_both (padded 15 level) (length level) (are_padded 15 level p) (omega arith)
+
+length_word : (level : List ℕ) → length (word level) ≡ 16
+length_word level = omega (arith, length-append (padded 15 level) (length level ∷ []), length_padded 15 level)
 
 -- keys lie as their levels
 pub keys_lie : (a b : List ℕ) (k l : Key) → IsKey a k → IsKey b l → cmp a b ≡ key_cmp k l
 keys_lie a b k l h m =
-    let same : length (word a) ≡ length (word b) = length_word a ∙ sym (length_word b) in
-    let front : cmp (take 8 (word a)) (take 8 (word b)) ≡ nat_cmp k.first l.first =
-    spelt_cmp 0 (take 8 (word a)) (take 8 (word b)) (length_front 8 (word a) (word b) same) (are_front 8 (word a) (are_word a h.bytes h.short)) (are_front 8 (word b) (are_word b m.bytes m.short))
-    ∙ (λ i. nat_cmp (sym h.front i) (sym m.front i)) in
-    let back : cmp (drop 7 (word a)) (drop 7 (word b)) ≡ nat_cmp k.last l.last =
-    spelt_cmp 0 (drop 7 (word a)) (drop 7 (word b)) (length_back 7 (word a) (word b) same) (are_back 7 (word a) (are_word a h.bytes h.short)) (are_back 7 (word b) (are_word b m.bytes m.short))
-    ∙ (λ i. nat_cmp (sym h.back i) (sym m.back i)) in
-    padded_cmp 14 0 (length a) (length b) a b h.short m.short (omega arith) (omega arith)
-    ∙ (overlap 7 (word a) (word b) same (omega (arith, length_word a)) ∙ (λ i. ordering_then (front i) (back i)))
-
--- ---- how keys lie, by their numbers
-pub less_first : (k l : Key) → k.first < l.first → key_cmp k l ≡ Less
-less_first k l h = ap (λ o. ordering_then o (nat_cmp k.last l.last)) (less_is k.first l.first h)
-
-pub same_first : (k l : Key) → k.first ≡ l.first → key_cmp k l ≡ nat_cmp k.last l.last
-same_first k l h = ap (λ o. ordering_then o (nat_cmp k.last l.last)) (equal_is k.first l.first h)
-
-pub greater_first : (k l : Key) → l.first < k.first → key_cmp k l ≡ Greater
-greater_first k l h = ap (λ o. ordering_then o (nat_cmp k.last l.last)) (greater_is k.first l.first h)
+    padded_cmp 15 0 (length a) (length b) a b (omega (arith, h.short)) (omega (arith, m.short)) (omega arith) (omega arith)
+    ∙ (spelt_cmp 0 (word a) (word b) (length_word a ∙ sym (length_word b)) (are_word a h.bytes h.short) (are_word b m.bytes m.short)
+    ∙ (λ i. nat_cmp (sym h.number i) (sym m.number i)))
 
 -- ---- what a key is made of
 
@@ -181,6 +123,14 @@ padded_more n i [] h l = absurd (omega arith)
 padded_more zero i (x ∷ xs) h l = absurd (omega arith)
 padded_more (suc n) zero (x ∷ xs) h l = refl
 padded_more (suc n) (suc i) (x ∷ xs) h l = ap (λ (w : List ℕ). x ∷ w) (padded_more n i xs (omega arith) (omega arith))
+
+pub padded_one : (n : ℕ) (xs : List ℕ) → length xs ≤ n → padded (suc n) xs ≡ padded n xs ++ 0 ∷ []
+padded_one zero [] h = refl
+padded_one zero (x ∷ xs) h = absurd (omega arith)
+padded_one (suc n) [] h = ap (λ (w : List ℕ). 0 ∷ w) (padded_one n [] (omega arith))
+padded_one (suc n) (x ∷ xs) h = ap (λ (w : List ℕ). x ∷ w) (padded_one n xs (omega arith))
+
+-- ---- a key of fourteen bytes
 
 abbrev reads : List ℕ → ℕ → ℕ → List ℕ
 reads xs i zero = []
@@ -197,22 +147,56 @@ module _ (bs : List ℕ) (n : ℕ) (padded_so : bs ≡ padded 14 (take n bs)) (s
   length_is : length (take n bs) ≡ n
   length_is = length-take-le n bs (omega (arith, fourteen, short))
 
-  word_is : word (take n bs) ≡ bs ++ n ∷ []
-  word_is = (λ i. sym padded_so i ++ length_is i ∷ [])
+  bytes_are : bs ≡ reads bs 0 14
+  bytes_are = sym (take_all 14 bs (omega (arith, fourteen))) ∙ read_out 14 0 bs (omega (arith, fourteen))
 
-  front_is : take 8 (word (take n bs)) ≡ reads bs 0 8
-  front_is = ap (take 8) word_is ∙ (take-append-le 8 bs (n ∷ []) (omega (arith, fourteen)) ∙ read_out 8 0 bs (omega (arith, fourteen)))
+  word_is : word (take n bs) ≡ (reads bs 0 14 ++ 0 ∷ []) ++ n ∷ []
+  word_is =
+      ap (λ (w : List ℕ). w ++ length (take n bs) ∷ []) (padded_one 14 (take n bs) (omega (arith, length_is, short)))
+      ∙ (λ i. ((sym padded_so ∙ bytes_are) i ++ 0 ∷ []) ++ length_is i ∷ [])
 
-  back_is : drop 7 (word (take n bs)) ≡ reads bs 7 7 ++ n ∷ []
-  back_is =
-      ap (drop 7) word_is
-      ∙ (drop-append-le 7 bs (n ∷ []) (omega (arith, fourteen))
-      ∙ ap (λ (w : List ℕ). w ++ n ∷ []) (sym (take_all 7 (drop 7 bs) (omega (arith, length-drop 7 bs, fourteen))) ∙ read_out 7 7 bs (omega (arith, fourteen))))
-
-  pub is_key : ((k : ℕ) → get_or bs k 0 < 256) → (key : Key) → key.first ≡ from_be_bytes w64 (reads bs 0 8) → key.last ≡ from_be_bytes w64 (reads bs 7 7 ++ n ∷ []) → IsKey (take n bs) key
-  is_key h key p q = record {
+  pub is_key : ((k : ℕ) → get_or bs k 0 < 256) → (key : Key) → key.number ≡ spelt 0 (reads bs 0 14 ++ 0 ∷ n ∷ []) → IsKey (take n bs) key
+  is_key h key p = record {
     short = omega (arith, length_is, short);
     bytes = are_front n bs (are_bytes bs h);
-    front = p ∙ (spelt_is (get_or bs 0 0) (get_or bs 1 0) (get_or bs 2 0) (get_or bs 3 0) (get_or bs 4 0) (get_or bs 5 0) (get_or bs 6 0) (get_or bs 7 0) ∙ ap (spelt 0) (sym front_is));
-    back = q ∙ (spelt_is (get_or bs 7 0) (get_or bs 8 0) (get_or bs 9 0) (get_or bs 10 0) (get_or bs 11 0) (get_or bs 12 0) (get_or bs 13 0) n ∙ ap (spelt 0) (sym back_is));
+    number = p ∙ ap (spelt 0) (sym word_is);
   }
+
+-- ---- a key of a level
+
+spelt_append : (a : ℕ) (xs ys : List ℕ) → spelt a (xs ++ ys) ≡ spelt (spelt a xs) ys
+spelt_append a [] ys = refl
+spelt_append a (x ∷ xs) ys = spelt_append (a * 256 + x) xs ys
+
+pub spelt_more : (i : ℕ) (xs : List ℕ) → i < length xs → spelt 0 (take (i + 1) xs) ≡ spelt 0 (take i xs) * 256 + get_or xs i 0
+spelt_more i xs h = ap (λ (n : ℕ). spelt 0 (take n xs)) (add-one i) ∙ (ap (spelt 0) (take-suc xs i 0 h) ∙ spelt_append 0 (take i xs) (get_or xs i 0 ∷ []))
+
+pub byte_up : (j k : ℕ) → j ≡ k + 1 → 2 ^ (8 * j) ≡ 256 * 2 ^ (8 * k)
+byte_up j k h = ap (λ (m : ℕ). 2 ^ m) (let e : 8 * j ≡ 8 + 8 * k = omega arith in e) ∙ pow-add 2 8 (8 * k)
+
+spelt_zeros : (n a : ℕ) → spelt a (padded n []) ≡ a * 2 ^ (8 * n)
+spelt_zeros zero a = omega arith
+spelt_zeros (suc n) a =
+    spelt_zeros n (a * 256 + 0)
+    ∙ (ap (λ (m : ℕ). m * 2 ^ (8 * n)) (let e : a * 256 + 0 ≡ a * 256 = omega arith in e)
+    ∙ (mul_assoc a 256 (2 ^ (8 * n)) ∙ ap (λ (p : ℕ). a * p) (sym (byte_up (suc n) n (omega arith)))))
+
+spelt_padded : (n k a : ℕ) (xs : List ℕ) → n ≡ length xs + k → spelt a (padded n xs) ≡ spelt a xs * 2 ^ (8 * k)
+spelt_padded n k a [] h = spelt_zeros n a ∙ ap (λ (m : ℕ). a * 2 ^ (8 * m)) (omega (arith, h))
+spelt_padded zero k a (x ∷ xs) h = absurd (omega arith)
+spelt_padded (suc n) k a (x ∷ xs) h = spelt_padded n k (a * 256 + x) xs (omega arith)
+
+pub is_key_of : (level : List ℕ) (k : ℕ) (key : Key) → ((i : ℕ) → Fits w8 (get_or level i 0)) → length level ≤ 14 → 15 ≡ length level + k
+    → key.number ≡ spelt 0 level * 2 ^ (8 * k) * 256 + length level → IsKey level key
+is_key_of level k key h short whole is = record {
+  short = short;
+  bytes = are_bytes level (λ i. omega (arith, h i));
+  number = is ∙ sym (spelt_append 0 (padded 15 level) (length level ∷ []) ∙ ap (λ (s : ℕ). s * 256 + length level) (spelt_padded 15 k 0 level whole));
+}
+
+-- a shift by the zeros behind a level loses nothing
+pub shift_fits : (n k number : ℕ) → 15 ≡ n + k → number < 2 ^ (8 * n) → (number * 2 ^ (8 * k) % 2 ^ 128 ≡ number * 2 ^ (8 * k)) × (number * 2 ^ (8 * k) < 2 ^ 120)
+shift_fits n k number whole h = (
+  shl_whole number (8 * n) (8 * k) 128 h (omega arith),
+  omega (arith, shl_below number (8 * n) (8 * k) h, ap (λ (m : ℕ). 2 ^ m) (let e : 8 * n + 8 * k ≡ 120 = omega arith in e)),
+)

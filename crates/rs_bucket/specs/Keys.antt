@@ -1,6 +1,6 @@
 -- Short levels as numbers.
-use Rattle.std.specs.Prelude.{◌≡◌, ◌+◌, ◌*◌, ◌<◌, ◌≤◌, ℕ, zero, suc, List, [], ◌∷◌, ◌++◌, length, take, drop}
-use Rattle.std.specs.Ordering.{nat_cmp, ordering_then}
+use Rattle.std.specs.Prelude.{◌≡◌, ◌+◌, ◌*◌, ◌<◌, ◌≤◌, ℕ, zero, suc, List, [], ◌∷◌, ◌++◌, length}
+use Rattle.std.specs.Ordering.{nat_cmp}
 use Rattle.std.specs.declared.cmp.Ordering.{Ordering}
 use Rattle.rs_bucket.specs.declared.key.Key.{Key}
 
@@ -12,7 +12,7 @@ padded (suc n) (x ∷ xs) = x ∷ padded n xs
 
 -- the bytes of a short level, zeros behind them, and its length
 abbrev pub word : List ℕ → List ℕ
-word level = padded 14 level ++ length level ∷ []
+word level = padded 15 level ++ length level ∷ []
 
 -- the number that the bytes spell, behind the digits of another one
 abbrev pub spelt : ℕ → List ℕ → ℕ
@@ -23,12 +23,11 @@ abbrev pub AreBytes : List ℕ → Type 0
 AreBytes [] = Unit {0}
 AreBytes (x ∷ xs) = (x < 256) × AreBytes xs
 
--- the numbers spell the front and the back of the level's word
+-- the number spells the level's word
 pub record IsKey (level : List ℕ) (key : Key) : Type 0 where
   pub short : length level ≤ 14
   pub bytes : AreBytes level
-  pub front : key.first ≡ spelt 0 (take 8 (word level))
-  pub back : key.last ≡ spelt 0 (drop 7 (word level))
+  pub number : key.number ≡ spelt 0 (word level)
 
 abbrev pub key_cmp : Key → Key → Ordering
-key_cmp k l = ordering_then (nat_cmp k.first l.first) (nat_cmp k.last l.last)
+key_cmp k l = nat_cmp k.number l.number

@@ -20,11 +20,10 @@ pub(crate) fn pad(level: &[u8]) -> [u8; SHORT]
     bytes
 }
 
-/// A short level as two numbers, which lie as the levels do: its bytes, zeros behind them, and its length. The middle byte is in both.
+/// A short level as a number, whose 16 bytes are those of the level, zeros behind them, and its length. Keys lie as the levels do.
 #[derive(Clone, Copy)]
 pub(crate) struct Key {
-    first: u64,
-    last: u64,
+    number: u128,
 }
 
 impl Key {
@@ -34,13 +33,30 @@ impl Key {
         requires padded { bytes.now ≡ padded 14 (take length bytes.now) }
         ensures { IsKey (take length bytes.now) result }
     {
+        let first = u64::from_be_bytes([
+            bytes[0], bytes[1], bytes[2], bytes[3], bytes[4], bytes[5], bytes[6], bytes[7],
+        ]);
+        let middle = u32::from_be_bytes([bytes[8], bytes[9], bytes[10], bytes[11]]);
+        let last = u16::from_be_bytes([bytes[12], bytes[13]]);
+        let behind = (u64::from(middle) << 32) + (u64::from(last) << 16) + u64::from(length);
         Key {
-            first: u64::from_be_bytes([
-                bytes[0], bytes[1], bytes[2], bytes[3], bytes[4], bytes[5], bytes[6], bytes[7],
-            ]),
-            last: u64::from_be_bytes([
-                bytes[7], bytes[8], bytes[9], bytes[10], bytes[11], bytes[12], bytes[13], length,
-            ]),
+            number: (u128::from(first) << 64) + u128::from(behind),
+        }
+    }
+
+    /// The key of a short level.
+    pub(crate) fn of_level(level: &[u8]) -> Key
+        requires { length level.now ≤ 14 }
+        ensures { IsKey level.now result }
+    {
+        let mut number: u128 = 0;
+        for byte in level {
+            number = (number << 8) + u128::from(*byte);
+        }
+        let zeros = SHORT + 1 - level.len();
+        let padded = number << (8 * zeros);
+        Key {
+            number: (padded << 8) + level.len() as u128,
         }
     }
 
@@ -49,7 +65,7 @@ impl Key {
         ensures before { IsTrue result → key_cmp self other ≡ Less }
         ensures from { result ≡ false → key_cmp self other ≢ Less }
     {
-        self.first < other.first || (self.first == other.first && self.last < other.last)
+        self.number < other.number
     }
 
     /// The level is that of the other key.
@@ -57,6 +73,6 @@ impl Key {
         ensures same { IsTrue result → key_cmp self other ≡ Equal }
         ensures other { result ≡ false → key_cmp self other ≢ Equal }
     {
-        self.first == other.first && self.last == other.last
+        self.number == other.number
     }
 }

@@ -5,7 +5,7 @@ ghost use Rattle.std.specs.Cmp.Lexicographic.{slice_cmp};
 ghost use Rattle.std.specs.Ordering.{nat_cmp};
 ghost use Rattle.std.specs.declared.cmp.Ordering.TheVariants.{Less};
 
-use crate::key::{Key, SHORT, pad};
+use crate::key::{Key, SHORT};
 use crate::label::Label;
 use std::cmp::Ordering;
 use std::marker::Model;
@@ -35,7 +35,7 @@ impl<'a> Sought<'a> {
         if level.len() > SHORT {
             return Sought { level, key: None };
         }
-        let key = Key::new(&pad(level), level.len() as u8);
+        let key = Key::of_level(level);
         Sought {
             level,
             key: Some(key),

@@ -129,7 +129,7 @@ impl Branch {
     }
 
     /// Puts two chunks in the place of the chunk at an index, if that has too many children. If memory is refused, it stays, and the
-    /// next entry that goes there tries again.
+    /// next entry that adds or clears a message there tries again.
     pub(crate) fn divide(&mut self, alloc: Global, i: usize)
         ensures { self.new.spots ≡ self.old.spots }
     {
@@ -143,7 +143,7 @@ impl Branch {
     }
 
     /// Puts two chunks in the place of the children, if these are too many, or none if there are chunks enough. The next entry that
-    /// goes there divides what is left of too many children, and tries again if memory is refused.
+    /// adds or clears a message there divides what is left of too many children, and tries again if memory is refused.
     pub fn fold(&mut self, alloc: Global)
         ensures { self.new.spots ≡ self.old.spots }
     {

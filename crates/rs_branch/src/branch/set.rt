@@ -193,9 +193,13 @@ impl Stem {
         let Some(next) = skip_chain(self.chain.as_slice(), found.topic().as_bytes(), at) else {
             return self.set_beside(alloc, found, at);
         };
-        let done = self.branch.set(alloc, found, next);
+        let was = self.branch.set(alloc, found, next)?;
+        // A message that takes another one's place adds no child.
+        if was {
+            return Ok(true);
+        }
         self.branch.fold(alloc);
-        done
+        Ok(false)
     }
 
     /// The same in place if the stem has one owner, and else in a copy.
@@ -255,9 +259,12 @@ impl Branch {
         };
         match index_of(self.children.as_slice(), level) {
             Ok(i) => {
-                let done = self.children[i].set(alloc, found, at, next);
+                let was = self.children[i].set(alloc, found, at, next)?;
+                if was {
+                    return Ok(true);
+                }
                 self.divide(alloc, i);
-                done
+                Ok(false)
             }
             Err(i) => {
                 let label = Label::from_topic(alloc, level, &found, at)?;
