@@ -1,6 +1,7 @@
 //! The entries of the store's history.
 
 ghost use Rattle.std.specs.Prelude.{◌≡◌, ◌≢◌, ◌+◌, ◌<◌, ◌≤◌, ◌&&◌, nat_lt, nat_le, if◌then◌else◌, [], true, Some, None, IfOk, IfErr, length};
+ghost use Rattle.rs_message.specs.declared.entry.TheConstants.{MAX_LINES, MAX_PLACES};
 ghost use Rattle.rs_message.specs.declared.limits.TheConstants.{MAX_PACKET_SIZE};
 ghost use Rattle.rs_message.specs.Sizes.{message_size};
 ghost use Rattle.rs_message.specs.Messages.{is_sweep, operation_of};
@@ -14,29 +15,35 @@ use rs_topic::TopicName;
 use std::alloc::{AllocError, Global};
 use std::marker::Model;
 
-/// The greatest number of a place (this server's choice). The first place is 1.
+/// The most places that a server may have (this server's choice): so many seats read a store, and so many lanes of threads serve its
+/// clients. [`Origin::new`] takes these places alone, from 1 on.
 pub const MAX_PLACES: u8 = 64;
 
 const _: () = prove!(MAX_PLACES == 64);
 
-/// Where an entry came from: a place, 1 to [`MAX_PLACES`], or the writer, whose place is 0; and a serial number from 1 on, which rises
-/// at each place.
+/// The greatest number of lines to a store (this server's choice). A line's number, from 1 on, is the place of its entries.
+pub const MAX_LINES: u16 = 10_000;
+
+const _: () = prove!(MAX_LINES == 10_000);
+
+/// Where an entry came from: a place, the number of its line, 1 to [`MAX_LINES`], or the writer, whose place is 0; and a serial number
+/// from 1 on, which rises at each place.
 #[derive(Clone, Copy, Debug, PartialEq, Eq)]
 pub struct Origin {
-    place: u8,
+    place: u16,
     serial: u64,
 }
 
 impl Model for Origin {
     ghost use Rattle.std.specs.Prelude.{ℕ, ◌<◌, ◌≤◌};
-    ghost use Rattle.rs_message.specs.declared.entry.TheConstants.{MAX_PLACES};
+    ghost use Rattle.rs_message.specs.declared.entry.TheConstants.{MAX_LINES};
     ghost use Rattle.rs_message.specs.Values.{OriginValue};
 
     ghost Value = { OriginValue };
 
     ghost view = { λ o. record { place = o.place; serial = o.serial } };
 
-    ghost invariant = { λ o. (o.place ≤ MAX_PLACES) × (0 < o.serial) };
+    ghost invariant = { λ o. (o.place ≤ MAX_LINES) × (0 < o.serial) };
 
     ghost inverse = { λ v. record { place = v.place; serial = v.serial } };
 }
@@ -48,7 +55,24 @@ impl Origin {
             then Some (record { place = place; serial = serial }) else None) }
     {
         if 0 < place && place <= MAX_PLACES && 0 < serial {
-            return Some(Origin { place, serial });
+            return Some(Origin {
+                place: u16::from(place),
+                serial,
+            });
+        }
+        None
+    }
+
+    /// An origin of this line. None if the line is not 1 to [`MAX_LINES`], or the serial is 0.
+    pub fn of_line(line: u16, serial: u64) -> Option<Origin>
+        ensures { result ≡ (if nat_lt 0 line && nat_le line MAX_LINES && nat_lt 0 serial
+            then Some (record { place = line; serial = serial }) else None) }
+    {
+        if 0 < line && line <= MAX_LINES && 0 < serial {
+            return Some(Origin {
+                place: line,
+                serial,
+            });
         }
         None
     }
@@ -63,10 +87,10 @@ impl Origin {
         None
     }
 
-    /// The place, 1 to [`MAX_PLACES`], or 0 for the writer.
-    pub fn place(self) -> u8
+    /// The place, 1 to [`MAX_LINES`], or 0 for the writer.
+    pub fn place(self) -> u16
         ensures value { result ≡ self.place }
-        ensures small { result ≤ MAX_PLACES }
+        ensures small { result ≤ MAX_LINES }
     {
         self.place
     }

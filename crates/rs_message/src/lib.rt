@@ -18,12 +18,12 @@ mod places;
 mod qos;
 mod same;
 
-pub use entry::{Entry, MAX_PLACES, Operation, Origin};
+pub use entry::{Entry, MAX_LINES, MAX_PLACES, Operation, Origin};
 pub use fault::SubmitFault;
 pub use found::Found;
 pub use limits::MAX_PACKET_SIZE;
 pub use message::{Message, Remaining};
-pub use places::PlaceCount;
+pub use places::{LineCount, PlaceCount};
 pub use qos::Qos;
 pub use rs_property::Properties;
 pub use same::is_same;

@@ -64,6 +64,6 @@ pub fn clear(alloc: Global, topic: &[u8]) -> Option<Operation>
     Some(Operation::Clear(TopicName::read(alloc, topic).ok()?))
 }
 
-pub fn origin(place: u8, serial: u64) -> Result<Origin, Fail> {
-    Ok(Origin::new(place, serial).ok_or("no place or no serial")?)
+pub fn origin(place: u16, serial: u64) -> Result<Origin, Fail> {
+    Ok(Origin::of_line(place, serial).ok_or("no line or no serial")?)
 }

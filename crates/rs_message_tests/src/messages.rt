@@ -4,8 +4,8 @@ ghost use Rattle.std.specs.Prelude.{◌≢◌, ◌≤◌, [], length};
 
 use bytes::Bytes;
 use rs_message::{
-    Entry, Found, MAX_PLACES, Message, Operation, Origin, PlaceCount, Properties, Qos, Remaining,
-    SubmitFault, is_same,
+    Entry, Found, LineCount, MAX_LINES, MAX_PLACES, Message, Operation, Origin, PlaceCount,
+    Properties, Qos, Remaining, SubmitFault, is_same,
 };
 use rs_test_kit::is_shown;
 use rs_topic::TopicName;
@@ -55,8 +55,22 @@ fn an_origin_has_a_place_and_a_serial(rt: HostRuntime) -> Result<(), Fail> {
     assert!(rt; Origin::new(1, 0).is_none());
     assert!(rt; Origin::new(MAX_PLACES + 1, 1).is_none());
     let origin = Origin::new(MAX_PLACES, u64::MAX).ok_or("it is a place")?;
-    assert!(rt; origin.place() == MAX_PLACES);
+    assert!(rt; origin.place() == u16::from(MAX_PLACES));
     assert!(rt; origin.serial() == u64::MAX);
+    Ok(())
+}
+
+#[test]
+fn an_origin_of_a_line_has_its_number_as_place(rt: HostRuntime) -> Result<(), Fail> {
+    assert!(rt; Origin::of_line(0, 1).is_none());
+    assert!(rt; Origin::of_line(1, 0).is_none());
+    assert!(rt; Origin::of_line(10_001, 1).is_none());
+    for line in [1, 64, 65, 10_000] {
+        let origin = Origin::of_line(line, 7).ok_or("it is a line")?;
+        assert!(rt; origin.place() == line);
+        assert!(rt; origin.serial() == 7);
+    }
+    assert!(rt; Origin::of_line(64, 1) == Origin::new(64, 1));
     Ok(())
 }
 
@@ -66,6 +80,17 @@ fn a_place_count_is_1_to_64(rt: HostRuntime) -> Result<(), Fail> {
     assert!(rt; PlaceCount::new(MAX_PLACES + 1).is_none());
     assert!(rt; PlaceCount::new(1).ok_or("the least")?.get() == 1);
     assert!(rt; PlaceCount::new(MAX_PLACES).ok_or("the greatest")?.get() == MAX_PLACES);
+    Ok(())
+}
+
+#[test]
+fn a_line_count_is_1_to_10_000(rt: HostRuntime) -> Result<(), Fail> {
+    assert!(rt; LineCount::new(0).is_none());
+    assert!(rt; LineCount::new(10_001).is_none());
+    assert!(rt; LineCount::new(1).ok_or("the least")?.get() == 1);
+    assert!(rt; LineCount::new(MAX_LINES).ok_or("the greatest")?.get() == 10_000);
+    let places = PlaceCount::new(MAX_PLACES).ok_or("the most places")?;
+    assert!(rt; LineCount::of_places(places).get() == 64);
     Ok(())
 }
 
@@ -287,7 +312,7 @@ fn a_large_message_is_copied(rt: HostRuntime) -> Result<(), Fail> {
 
 #[test]
 fn an_entry_of_a_large_message_is_copied(rt: HostRuntime) -> Result<(), Fail> {
-    let origin = Origin::new(MAX_PLACES, u64::MAX).ok_or("it is a place")?;
+    let origin = Origin::of_line(MAX_LINES, u64::MAX).ok_or("it is a line")?;
     let topic = TopicName::read(rt.alloc(), b"a/b")?;
     let found = Found::new(rt.alloc(), topic, large_message(rt.alloc())?)?;
     let operation = Operation::Set(found);

@@ -12,7 +12,7 @@ use Rattle.rs_topic.specs.Order.{topic_cmp}
 use Rattle.rs_message.specs.Messages.{set_of}
 use Rattle.rs_message.specs.Values.{MessageValue}
 use Rattle.rs_message.specs.declared.entry.Entry.{Entry}
-use Rattle.rs_message.specs.declared.entry.TheConstants.{MAX_PLACES}
+use Rattle.rs_message.specs.declared.entry.TheConstants.{MAX_LINES}
 use Rattle.rs_store.specs.Contents.{Accepts, HasSpace, IsAdded, IsNew, IsNotNext, NeedsSweep, NotAddedBy, after, expired_in, followed, is_gone, next_sweep, serial_count, stays, swept}
 use Rattle.rs_store.specs.History.{IsLegal, MayNotCome, NeedsSweepAfter, Stands, cleaned, extended, sweep_after}
 use Rattle.rs_store.specs.Adding.{Adds, NotAdds}
@@ -99,7 +99,7 @@ same_sweep c history moment s = rw (s.serials 0) refl
 pub stands_swept : (c : Content) (history : List Entry) (moment : ℕ) → Stands c history → Accepts c (next_sweep moment c) → Stands (swept moment c) (cleaned moment history)
 stands_swept c history moment s a = let P : List Entry → Type 0 = λ l. Stands (swept moment c) l in subst P (ap (λ (z : Entry). extended history z) (same_sweep c history moment s)) (stands_more c history (next_sweep moment c) s (omega arith) a)
 
-pub swept_for : (c : Content) (history : List Entry) (e : Entry) → Stands c history → e.origin.place ≤ MAX_PLACES → (s : NeedsSweep c e) → NeedsSweepAfter c.limit history e
+pub swept_for : (c : Content) (history : List Entry) (e : Entry) → Stands c history → e.origin.place ≤ MAX_LINES → (s : NeedsSweep c e) → NeedsSweepAfter c.limit history e
 swept_for c history e stands small s = record {
   topic = s.topic;
   message = s.message;
@@ -139,7 +139,7 @@ named n o r some is = at (nat_lt 0 n) refl is
 abbrev pub Precedes : Content → Entry → Entry → Type 0
 Precedes c e sweep = (s : NeedsSweep c e) × (sweep ≡ next_sweep s.message.received c)
 
-pub precedes : (c : Content) (history : List Entry) (e sweep : Entry) → Stands c history → e.origin.place ≤ MAX_PLACES → Precedes c e sweep → (s : NeedsSweepAfter c.limit history e) × (sweep ≡ sweep_after s.message.received history)
+pub precedes : (c : Content) (history : List Entry) (e sweep : Entry) → Stands c history → e.origin.place ≤ MAX_LINES → Precedes c e sweep → (s : NeedsSweepAfter c.limit history e) × (sweep ≡ sweep_after s.message.received history)
 unfolding swept_for
 precedes c history e sweep s small p = (swept_for c history e s small p.0, p.1 ∙ same_sweep c history p.0.message.received s)
 
@@ -172,14 +172,14 @@ ready_refused c e new last (inr r) is = inr (r.0, inr (is ∙ r.1))
 stands_at : (c new : Content) (history : List Entry) → new ≡ c → Stands c history → Stands new history
 stands_at c new history is s = let P : Content → Type 0 = λ w. Stands w history in subst P (sym is) s
 
-pub adds : (c : Content) (history : List Entry) (e : Entry) (new : Content) → Stands c history → e.origin.place ≤ MAX_PLACES → IsAdded c e new → Adds c.limit history e (Stands new)
+pub adds : (c : Content) (history : List Entry) (e : Entry) (new : Content) → Stands c history → e.origin.place ≤ MAX_LINES → IsAdded c e new → Adds c.limit history e (Stands new)
 unfolding swept_for
 adds c history e new s small (inl a) = inl (legal_more c history e s a.0, stands_at (followed c e) new (extended history e) a.1 (stands_more c history e s small a.0))
 adds c history e new s small (inr a) =
     let m = a.0.message.received in
     inr (swept_for c history e s small a.0, stands_at (followed (swept m c) e) new (extended (cleaned m history) e) a.1 (stands_more (swept m c) (cleaned m history) e (stands_swept c history m s a.0.sweeps) small a.0.fits))
 
-pub not_adds : (c : Content) (history : List Entry) (e : Entry) (r : Refusal) (new : Content) → Stands c history → e.origin.place ≤ MAX_PLACES → 0 < e.origin.serial → NotAddedBy c e r new → NotAdds c.limit history e r (Stands new)
+pub not_adds : (c : Content) (history : List Entry) (e : Entry) (r : Refusal) (new : Content) → Stands c history → e.origin.place ≤ MAX_LINES → 0 < e.origin.serial → NotAddedBy c e r new → NotAdds c.limit history e r (Stands new)
 unfolding swept_for
 not_adds c history e Stale new s small some n = (may_not_come c history e Stale s some n.0, stands_at c new history n.1 s)
 not_adds c history e Full new s small some n = (may_not_come c history e Full s some n.0, stands_at c new history n.1 s)

@@ -14,6 +14,7 @@ ghost use Rattle.rs_store.specs.declared.fault.Refusal.TheVariants.{Full};
 use crate::calm::Calm;
 use crate::fault::Refusal;
 use crate::limit::TopicLimit;
+use crate::messages::Messages;
 use rs_message::{Entry, Found, Operation, Origin};
 use rs_topic::TopicFilter;
 use std::alloc::{AllocError, Global};
@@ -21,6 +22,9 @@ use std::alloc::{AllocError, Global};
 /// The retained messages after a list of entries. Contracts see a catalogue as its [`Content`](crate::Content): two catalogues of
 /// one list have the same. [`content_law`](crate::content_law) says how a content follows from the list.
 pub trait Catalogue {
+    /// What it answers from.
+    type Messages: Messages + Drop;
+
     ghost content: { Self → Content };
 
     /// An empty catalogue: version 0, no topic, and 0 as the last serial of each place and of the writer. An error if memory is refused.
@@ -37,6 +41,11 @@ pub trait Catalogue {
         requires { Accepts (content self.old) entry }
         ensures done { OnOk result (content self.new ≡ followed (content self.old) entry) }
         ensures refused { OnErr result (content self.new ≡ content self.old) };
+
+    /// Its messages, without the serials, the limit and the version. They stay as they are when the catalogue changes. They share the
+    /// bytes of topics, texts and payloads. An error if memory is refused.
+    fn messages(&self) -> Result<Self::Messages, AllocError>
+        ensures { IfOk result (λ m. Self.Messages.retained m ≡ (content self.now).retained) };
 
     /// Copies of the messages that the filter matches and that are not expired, in the order of replay (section 3.8.4).
     /// `now` is in seconds. Copies share the bytes of topics, texts and payloads. An error if memory is refused.
@@ -58,7 +67,7 @@ pub trait Catalogue {
         ensures { result ≡ (content self.now).version };
 
     /// The last serial of a place, or of the writer (place 0), or 0 if it has none.
-    fn last_serial(&self, place: u8) -> u64
+    fn last_serial(&self, place: u16) -> u64
         ensures value { result ≡ slice_index (content self.now).serials place }
         ensures wide { length (content self.now).serials ≡ serial_count };
 

@@ -1,23 +1,24 @@
 //! What a catalogue keeps of its entries beside their messages.
 
-ghost use Rattle.std.specs.Prelude.{◌≡◌, ◌-◌, ◌^◌, ◌<◌, length, nat_lt, slice_index};
+ghost use Rattle.std.specs.Prelude.{◌≡◌, ◌-◌, ◌^◌, ◌<◌, length, nat_lt, slice_index, IfOk};
 ghost use Rattle.rs_store.specs.Contents.{serial_count};
 ghost use Rattle.rs_store.specs.Ledgers.{counted, unused};
 
 use crate::limit::TopicLimit;
-use rs_message::{MAX_PLACES, Origin};
+use rs_message::{MAX_LINES, Origin};
+use std::alloc::{AllocError, Global};
 use std::marker::Model;
 
-/// One serial for each place, at its number, and the writer's at 0.
-const SERIALS: usize = MAX_PLACES as usize + 1;
+/// One serial for each line, at its number, and the writer's at 0.
+const SERIALS: usize = MAX_LINES as usize + 1;
 
 /// The limit of a catalogue, the last serial of each place and of the writer, and the number of entries. A catalogue is its messages
-/// and a ledger. Each call takes constant time.
+/// and a ledger. Each call takes constant time, but for `new` and `copy`.
 #[derive(Debug, Drop)]
 pub struct Ledger {
     limit: TopicLimit,
     // Indexed by place. The writer's is at 0.
-    serials: [u64; SERIALS],
+    serials: Vec<u64>,
     version: u64,
 }
 
@@ -26,29 +27,28 @@ impl Model for Ledger {
 
     ghost Value = { LedgerValue };
 
-    ghost view = { λ l. record { limit = l.limit; serials = l.serials; version = l.version } };
-}
+    ghost use Rattle.std.specs.Prelude.{◌≡◌, length};
+    ghost use Rattle.rs_store.specs.Contents.{serial_count};
 
-fn serial_of(serials: &[u64; SERIALS], place: u8) -> u64
-    ensures value { result ≡ slice_index serials.now place }
-    ensures wide { length serials.now ≡ serial_count }
-{
-    if (place as usize) < SERIALS {
-        return serials[place as usize];
-    }
-    0
+    ghost invariant = { λ l. length l.serials.items ≡ serial_count };
+
+    ghost view = { λ l. record { limit = l.limit; serials = l.serials.items; version = l.version } };
 }
 
 impl Ledger {
     /// Of no entry.
-    pub fn new(limit: TopicLimit) -> Ledger
-        ensures { result ≡ unused limit }
+    ///
+    /// # Errors
+    ///
+    /// [`AllocError`] if memory is refused.
+    pub fn new(alloc: Global, limit: TopicLimit) -> Result<Ledger, AllocError>
+        ensures { IfOk result (λ l. l ≡ unused limit) }
     {
-        Ledger {
+        Ok(Ledger {
             limit,
-            serials: [0; SERIALS],
+            serials: vec![in alloc; 0u64; SERIALS]?,
             version: 0,
-        }
+        })
     }
 
     /// How many topics may hold a message.
@@ -66,11 +66,14 @@ impl Ledger {
     }
 
     /// The last serial of a place, or of the writer (place 0), or 0 if it has none.
-    pub fn last_serial(&self, place: u8) -> u64
+    pub fn last_serial(&self, place: u16) -> u64
         ensures value { result ≡ slice_index self.now.serials place }
         ensures wide { length self.now.serials ≡ serial_count }
     {
-        serial_of(&self.serials, place)
+        if (place as usize) < SERIALS {
+            return self.serials[place as usize];
+        }
+        0
     }
 
     /// Whether the serial is above the last one of its place.
@@ -97,13 +100,17 @@ impl Ledger {
     }
 
     /// An equal ledger.
-    pub fn copy(&self) -> Ledger
-        ensures { result ≡ self.now }
+    ///
+    /// # Errors
+    ///
+    /// [`AllocError`] if memory is refused.
+    pub fn copy(&self) -> Result<Ledger, AllocError>
+        ensures { IfOk result (λ l. l ≡ self.now) }
     {
-        Ledger {
+        Ok(Ledger {
             limit: self.limit,
-            serials: self.serials,
+            serials: self.serials.clone()?,
             version: self.version,
-        }
+        })
     }
 }

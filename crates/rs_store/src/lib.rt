@@ -5,7 +5,7 @@
 //! and the number of entries. [`add`] appends one entry or says why not. If a Set is one topic too many, it first appends a Sweep, by
 //! which expired messages free their topics. A [`Calm`] says from which moment on it has to look for them. A [`CalmCatalogue`] is a
 //! catalogue with its calm moment. [`MapCatalogue`] keeps the messages in one ordered map. A catalogue is its messages and a [`Ledger`],
-//! which counts the entries.
+//! which counts the entries. Its [`Messages`] alone give the answers, so a reader takes them without the ledger.
 #![tactic(auto)]
 
 mod answer;
@@ -19,6 +19,7 @@ mod law;
 mod ledger;
 mod limit;
 mod map;
+mod messages;
 
 pub use answer::{Answer, Stop};
 pub use calm::Calm;
@@ -30,4 +31,5 @@ pub use fault::Refusal;
 pub use law::{content_law, sweep_law};
 pub use ledger::Ledger;
 pub use limit::{MAX_TOPICS, TopicLimit};
-pub use map::MapCatalogue;
+pub use map::{MapCatalogue, MapMessages};
+pub use messages::Messages;

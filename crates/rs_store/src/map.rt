@@ -17,22 +17,29 @@ use crate::expiry::{earliest_end, is_expired};
 use crate::fault::Refusal;
 use crate::ledger::Ledger;
 use crate::limit::TopicLimit;
+use crate::messages::Messages;
 use rs_message::{Entry, Found, Message, Operation};
 use rs_topic::{TopicFilter, TopicName};
 use std::alloc::{AllocError, Global};
 use std::collections::BTreeMap;
 
+/// The messages of a [`MapCatalogue`], in the order of replay.
+#[derive(Drop)]
+pub struct MapMessages {
+    alloc: Global,
+    retained: BTreeMap<TopicName, Message>,
+}
+
 /// The messages in a map, in the order of replay. It is the plain catalogue: tests compare others with it.
 ///
 /// With n topics, `accepts` and `apply` look up one topic in about log n comparisons, each along the levels of two topics (at
-/// most [`MAX_LEVELS`](rs_topic::MAX_LEVELS)). `answer` matches every topic. `copy` takes about n log n comparisons. `version`,
-/// `last_serial` and `count` take constant time.
+/// most [`MAX_LEVELS`](rs_topic::MAX_LEVELS)). `answer` matches every topic. `copy` and `messages` take about n log n comparisons.
+/// `version`, `last_serial` and `count` take constant time.
 #[derive(Drop)]
 pub struct MapCatalogue {
-    alloc: Global,
-    retained: BTreeMap<TopicName, Message>,
+    messages: MapMessages,
     ledger: Ledger,
-    ghost fits: { length retained.entries ≤ ledger.limit },
+    ghost fits: { length messages.retained.entries ≤ ledger.limit },
 }
 
 /// Removes the messages that are expired.
@@ -186,38 +193,20 @@ fn copy_of(
     Ok(copy)
 }
 
-impl Catalogue for MapCatalogue {
-    ghost use Rattle.rs_store.specs.Maps.{content_of_map};
-
-    ghost content = { content_of_map };
-
-    fn new(alloc: Global, limit: TopicLimit) -> Result<MapCatalogue, AllocError> {
-        Ok(MapCatalogue {
-            alloc,
-            retained: BTreeMap::new(alloc),
-            ledger: Ledger::new(limit),
+impl MapMessages {
+    /// Equal messages, which share the bytes.
+    fn copy(&self) -> Result<MapMessages, AllocError>
+        ensures { IfOk result (λ copy. copy.retained.entries ≡ self.now.retained.entries) }
+    {
+        Ok(MapMessages {
+            alloc: self.alloc,
+            retained: copy_of(self.alloc, &self.retained)?,
         })
     }
+}
 
-    fn accepts(&self, entry: &Entry) -> Result<(), Refusal> {
-        if !self.ledger.is_new(entry.origin) {
-            return Err(Refusal::Stale);
-        }
-        if !self.ledger.has_number() {
-            return Err(Refusal::Full);
-        }
-        if !has_space(&self.retained, self.ledger.limit(), &entry.operation) {
-            return Err(Refusal::Full);
-        }
-        Ok(())
-    }
-
-    fn apply(&mut self, entry: Entry) -> Result<(), AllocError> {
-        let origin = entry.origin;
-        change(&mut self.retained, entry.operation)?;
-        self.ledger.count(origin);
-        Ok(())
-    }
+impl Messages for MapMessages {
+    ghost retained = { λ m. m.retained.entries };
 
     fn answer(&self, filter: &TopicFilter, now: u64) -> Result<Vec<Found>, AllocError> {
         match answers(self.alloc, &self.retained, filter, now, self.retained.len())? {
@@ -235,36 +224,94 @@ impl Catalogue for MapCatalogue {
     ) -> Result<Option<Vec<Found>>, AllocError> {
         answers(self.alloc, &self.retained, filter, now, room)
     }
+}
+
+impl Catalogue for MapCatalogue {
+    ghost use Rattle.rs_store.specs.Maps.{content_of_map};
+
+    type Messages = MapMessages;
+
+    ghost content = { content_of_map };
+
+    fn new(alloc: Global, limit: TopicLimit) -> Result<MapCatalogue, AllocError> {
+        Ok(MapCatalogue {
+            messages: MapMessages {
+                alloc,
+                retained: BTreeMap::new(alloc),
+            },
+            ledger: Ledger::new(alloc, limit)?,
+        })
+    }
+
+    fn accepts(&self, entry: &Entry) -> Result<(), Refusal> {
+        if !self.ledger.is_new(entry.origin) {
+            return Err(Refusal::Stale);
+        }
+        if !self.ledger.has_number() {
+            return Err(Refusal::Full);
+        }
+        if !has_space(
+            &self.messages.retained,
+            self.ledger.limit(),
+            &entry.operation,
+        ) {
+            return Err(Refusal::Full);
+        }
+        Ok(())
+    }
+
+    fn apply(&mut self, entry: Entry) -> Result<(), AllocError> {
+        let origin = entry.origin;
+        change(&mut self.messages.retained, entry.operation)?;
+        self.ledger.count(origin);
+        Ok(())
+    }
+
+    fn messages(&self) -> Result<MapMessages, AllocError> {
+        self.messages.copy()
+    }
+
+    fn answer(&self, filter: &TopicFilter, now: u64) -> Result<Vec<Found>, AllocError> {
+        self.messages.answer(filter, now)
+    }
+
+    fn answer_within(
+        &self,
+        filter: &TopicFilter,
+        now: u64,
+        room: usize,
+    ) -> Result<Option<Vec<Found>>, AllocError> {
+        self.messages.answer_within(filter, now, room)
+    }
 
     fn version(&self) -> u64 {
         self.ledger.version()
     }
 
-    fn last_serial(&self, place: u8) -> u64 {
+    fn last_serial(&self, place: u16) -> u64 {
         self.ledger.last_serial(place)
     }
 
     fn count(&self) -> u32 {
         // For the proof: this call says that the limit is in its range.
         let _limit = self.ledger.limit().get();
-        self.retained.len() as u32
+        self.messages.retained.len() as u32
     }
 
     fn expired_count(&self, now: u64) -> u32 {
         // For the proof: this call says that the limit is in its range.
         let _limit = self.ledger.limit().get();
-        count_expired(&self.retained, now)
+        count_expired(&self.messages.retained, now)
     }
 
     fn earliest(&self) -> u64 {
-        earliest_of(&self.retained)
+        earliest_of(&self.messages.retained)
     }
 
     fn copy(&self) -> Result<MapCatalogue, AllocError> {
         Ok(MapCatalogue {
-            alloc: self.alloc,
-            retained: copy_of(self.alloc, &self.retained)?,
-            ledger: self.ledger.copy(),
+            messages: self.messages.copy()?,
+            ledger: self.ledger.copy()?,
         })
     }
 }

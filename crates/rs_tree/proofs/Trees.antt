@@ -128,12 +128,11 @@ answered pattern now (s ∷ ss) a = at (is_matched (levels pattern) s.0 && not (
     at false is more = rw (same, is) more
 
 -- what stays of a tree with an operation
-pub is_tree : (root new : List Spot) (operation : Operation) (count limit n : ℕ) → IsTree root count limit → ArePlaced new → pairs new ≡ after (pairs root) operation → n ≡ length (after (pairs root) operation) → length (after (pairs root) operation) ≤ limit → IsTree new n limit
-is_tree root new operation count limit n t placed is counted few = record {
+pub is_tree : (root new : List Spot) (operation : Operation) (count n : ℕ) → IsTree root count → ArePlaced new → pairs new ≡ after (pairs root) operation → n ≡ length (after (pairs root) operation) → IsTree new n
+is_tree root new operation count n t placed is counted = record {
   placed = placed;
   sorted = rw is (sorted operation);
   counted = rw is (sym counted);
-  fits = rw counted few;
 }
   where
     sorted : (operation : Operation) → IsStrictlySortedBy topic_cmp (keys_of (after (pairs root) operation))
@@ -141,20 +140,20 @@ is_tree root new operation count limit n t placed is counted few = record {
     sorted (Clear topic) = sorted_remove topic_cmp (is_at (topic_cmp topic)) (pairs root) t.sorted
     sorted (Sweep moment) = sorted_filter topic_cmp (stays moment) (pairs root) t.sorted
 
-pub empty_tree : (root : List Spot) (limit : ℕ) → root ≡ [] → IsTree root 0 limit
-empty_tree root limit h = rw h (record { placed = tt; sorted = sorted_none topic_cmp; counted = refl; fits = omega arith })
+pub empty_tree : (root : List Spot) → root ≡ [] → IsTree root 0
+empty_tree root h = rw h (record { placed = tt; sorted = sorted_none topic_cmp; counted = refl })
 
 -- a Set where there may be one more topic
-pub space_below : (root : List Spot) (t : List ℕ) (m : MessageValue) (count limit : ℕ) → IsTree root count limit → count < limit → true ≡ nat_le (length (insert_entry topic_cmp (pairs root) t m)) limit
+pub space_below : (root : List Spot) (t : List ℕ) (m : MessageValue) (count limit : ℕ) → IsTree root count → count < limit → true ≡ nat_le (length (insert_entry topic_cmp (pairs root) t m)) limit
 space_below root t m count limit tree few = sym (space_if_few (pairs root) t m limit tree.sorted (omega (arith, tree.counted, few)))
 
 -- a Set where there may not; r is what `holds` answered
-pub space_retained : (root : List Spot) (t : List ℕ) (m : MessageValue) (r : Bool) (count limit : ℕ) → IsTree root count limit → limit ≤ count → r ≡ is_there (levels_from 0 t) root → r ≡ nat_le (length (insert_entry topic_cmp (pairs root) t m)) limit
-space_retained root t m true count limit tree full is = sym (space_if_there (pairs root) t m limit tree.sorted (omega (arith, tree.counted, tree.fits)) (sym (is ∙ there_pairs root (levels_from 0 t) t tree.placed (from_start t))))
-space_retained root t m false count limit tree full is = sym (no_space (pairs root) t m limit tree.sorted (omega (arith, tree.counted, full)) (sym (is ∙ there_pairs root (levels_from 0 t) t tree.placed (from_start t))))
+pub space_retained : (root : List Spot) (t : List ℕ) (m : MessageValue) (r : Bool) (count limit : ℕ) → IsTree root count → count ≤ limit → limit ≤ count → r ≡ is_there (levels_from 0 t) root → r ≡ nat_le (length (insert_entry topic_cmp (pairs root) t m)) limit
+space_retained root t m true count limit tree fits full is = sym (space_if_there (pairs root) t m limit tree.sorted (omega (arith, tree.counted, fits)) (sym (is ∙ there_pairs root (levels_from 0 t) t tree.placed (from_start t))))
+space_retained root t m false count limit tree fits full is = sym (no_space (pairs root) t m limit tree.sorted (omega (arith, tree.counted, full)) (sym (is ∙ there_pairs root (levels_from 0 t) t tree.placed (from_start t))))
 
-pub space_cleared : (root : List Spot) (t : List ℕ) (count limit : ℕ) → IsTree root count limit → true ≡ nat_le (length (remove_entry (is_at (topic_cmp t)) (pairs root))) limit
-space_cleared root t count limit tree = sym (space_after_clear (is_at (topic_cmp t)) (pairs root) limit (omega (arith, tree.counted, tree.fits)))
+pub space_cleared : (root : List Spot) (t : List ℕ) (count limit : ℕ) → IsTree root count → count ≤ limit → true ≡ nat_le (length (remove_entry (is_at (topic_cmp t)) (pairs root))) limit
+space_cleared root t count limit tree fits = sym (space_after_clear (is_at (topic_cmp t)) (pairs root) limit (omega (arith, tree.counted, fits)))
 
 -- ---- a Sweep
 
@@ -182,8 +181,8 @@ placed_swept moment (s ∷ ss) a = at (spot_stays moment s) refl (placed_swept m
     at true is more = rw is (a.0, more)
     at false is more = rw is more
 
-pub space_swept : (root : List Spot) (moment count limit : ℕ) → IsTree root count limit → true ≡ nat_le (length (filter (stays moment) (pairs root))) limit
-space_swept root moment count limit t = sym (space_after_sweep (stays moment) (pairs root) limit (omega (arith, t.counted, t.fits)))
+pub space_swept : (root : List Spot) (moment count limit : ℕ) → IsTree root count → count ≤ limit → true ≡ nat_le (length (filter (stays moment) (pairs root))) limit
+space_swept root moment count limit t fits = sym (space_after_sweep (stays moment) (pairs root) limit (omega (arith, t.counted, fits)))
 
 -- how many are left, as the call that counts them says it
 pub left_counted : (moment : ℕ) (ss new : List Spot) (n : ℕ) → length (pairs ss) ≤ MAX_TOPICS → new ≡ filter (spot_stays moment) ss → (length new ≤ MAX_TOPICS → n ≡ length new) → n ≡ length (filter (stays moment) (pairs ss))

@@ -1,5 +1,5 @@
 -- What a tree of topics keeps.
-use Rattle.std.specs.Prelude.{◌≡◌, ℕ, ◌≤◌, List, [], ◌∷◌, length}
+use Rattle.std.specs.Prelude.{◌≡◌, ℕ, List, [], ◌∷◌, length}
 use Rattle.std.specs.List.Sorted.{IsStrictlySortedBy}
 use Rattle.std.specs.Map.{keys_of}
 use Rattle.rs_topic.specs.Order.{topic_cmp}
@@ -13,8 +13,7 @@ ArePlaced [] = Unit {0}
 ArePlaced (s ∷ ss) = (levels s.1.topic ≡ s.0) × ArePlaced ss
 
 -- each path is the levels of its topic, the messages are in the order of replay, and there are so many
-pub record IsTree (root : List Spot) (count limit : ℕ) : Type 0 where
+pub record IsTree (root : List Spot) (count : ℕ) : Type 0 where
   pub placed : ArePlaced root
   pub sorted : IsStrictlySortedBy topic_cmp (keys_of (pairs root))
   pub counted : length (pairs root) ≡ count
-  pub fits : count ≤ limit

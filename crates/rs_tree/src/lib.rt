@@ -2,7 +2,9 @@
 //! copies. `rs_branch` has these nodes, and `rs_bucket` what stands at the ends of the tree: a few messages below one spot.
 #![tactic(auto)]
 
+mod messages;
 mod root;
 mod tree;
 
+pub use messages::TreeMessages;
 pub use tree::TreeCatalogue;

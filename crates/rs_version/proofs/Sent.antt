@@ -14,7 +14,6 @@ use Rattle.core.proofs.option.Option.TheSendSync as option
 use Rattle.core.specs.contracts.option.Option as Option
 use Rattle.left_right.proofs.reader.Reader.TheSendSync as reader
 use Rattle.left_right.proofs.writer.Writer.TheSendSync as copy_writer
-use Rattle.left_right.specs.contracts.reader.Reader as Reader
 use Rattle.rs_message.proofs.entry.Entry.TheSendSync as entry
 use Rattle.rs_message.proofs.places.PlaceCount.TheSendSync as count
 use Rattle.rs_message.specs.contracts.entry.Entry as Entry
@@ -71,8 +70,7 @@ module _ (N : RattleType) (g : StoreName.Ghosts N.Denot) where
   pub seat_send : IsSend (Seat.the_row N g)
   seat_send = view_send (InSeat.the_row N g) _ _ _ _
       (recorded_send (InSeat.the_field N g).row _ _ (InSeat.the_type N g).to_one (struct_send (shape (InSeat.the_type N g)) (
-        option.the_field_send (Reader.the_row CatalogueCopy.the_row known_row VersionRule.the_row Global.the_row rule.ghosts ghosts)
-            (reader.the_send CatalogueCopy.the_row known_row VersionRule.the_row Global.the_row rule.ghosts ghosts heap.the_send copy_sync heap.the_sync frees),
+        reader.the_field_send CatalogueCopy.the_row known_row VersionRule.the_row Global.the_row rule.ghosts ghosts heap.the_send copy_sync heap.the_sync frees,
         (list.the_send N g, tt),
       )))
 

@@ -3,7 +3,7 @@ use Rattle.std.proofs.Common.{◌≡◌, ℕ, ◌<◌, ◌≤◌, List, [], ◌�
 use Rattle.std.proofs.lemmas.List.{append-nil}
 use Rattle.logbook.specs.Pages.{Book}
 use Rattle.rs_message.specs.declared.entry.Entry.{Entry}
-use Rattle.rs_message.specs.declared.entry.TheConstants.{MAX_PLACES}
+use Rattle.rs_message.specs.declared.entry.TheConstants.{MAX_LINES}
 use Rattle.rs_store.specs.declared.content.Content.{Content}
 use Rattle.rs_store.specs.Contents.{Accepts, followed}
 use Rattle.rs_store.specs.Expiring.{NoneExpiredBefore}
@@ -90,7 +90,7 @@ all_published history limit copies copies' list calm held e writing is goes none
 
 -- an entry that was appended is held
 pub appended : (history : Book) (limit : ℕ) (copies copies' : Copies) (list list' : List Entry) (calm calm' : ℕ) (held : Option Entry) (e : Entry) (step : CopyStep) → IsWriting history limit copies list calm held → held ≡ None
-    → IsLegal limit (extended (shown copies).prefix.log e) → e.origin.place ≤ MAX_PLACES → 0 < e.origin.serial
+    → IsLegal limit (extended (shown copies).prefix.log e) → e.origin.place ≤ MAX_LINES → 0 < e.origin.serial
     → shown copies' ≡ shown copies → steps_of copies' ≡ step ∷ [] → step.entry ≡ e → step.after.history ≡ history → step.after.log ≡ list' → list' ≡ extended list e
     → ((c : Content) → NoneExpiredBefore calm c → NoneExpiredBefore calm' (followed c e))
     → IsWriting history limit copies' list' calm' (Some e)
@@ -99,8 +99,8 @@ appended history limit copies copies' list list' calm calm' held e step w none l
     let list_is : list' ≡ extended x.prefix.log e = more ∙ ap (λ l. extended l e) (nothing_held history limit copies list calm held w none) in
     let L : ℕ → Type 0 = λ n. IsLegal n (extended x.prefix.log e) in
     let a : Accepts (content_of x.catalogue) e = accepts (content_of x.catalogue) x.prefix.log e w.sound some (subst L (sym w.limit_is) legal) in
-    let A : Entry → Type 0 = λ z. (z.origin.place ≤ MAX_PLACES) × Accepts (content_of x.catalogue) z in
-    let fits : (step.entry.origin.place ≤ MAX_PLACES) × Accepts (content_of x.catalogue) step.entry = subst A (sym entry) (small, a) in
+    let A : Entry → Type 0 = λ z. (z.origin.place ≤ MAX_LINES) × Accepts (content_of x.catalogue) z in
+    let fits : (step.entry.origin.place ≤ MAX_LINES) × Accepts (content_of x.catalogue) step.entry = subst A (sym entry) (small, a) in
     let follows : Follows x step = (fits.0, fits.1, book ∙ sym w.history_is, log ∙ (list_is ∙ ap (λ z. extended x.prefix.log z) (sym entry))) in
     let F : CatalogueCopy → Type 0 = λ z. Follows z step in
     let C : CatalogueCopy → Type 0 = λ z. NoneExpiredBefore calm' (followed (content_of z.catalogue) e) in

@@ -3,7 +3,7 @@ use Rattle.std.specs.Prelude.{ℕ, ◌≡◌, ◌≤◌, List, Option, Some}
 use mathlib.Core.Option.{some}
 use mathlib.Core.List.{IsPrefix}
 use lib.ListN.{get_elem?}
-use Rattle.rs_message.specs.declared.entry.TheConstants.{MAX_PLACES}
+use Rattle.rs_message.specs.declared.entry.TheConstants.{MAX_LINES}
 use Rattle.rs_store.specs.Contents.{Accepts, followed}
 use Rattle.rs_store.specs.History.{Stands, extended}
 use Rattle.rs_version.specs.Catalogues.{content_of}
@@ -42,7 +42,7 @@ SeesIt v x y w = (w ≡ Some (known y)) × IsSound y × ((u : KnownVersion) → 
 
 -- the step is the next one of the copy
 abbrev pub Follows : CatalogueCopy → CopyStep → Type 0
-Follows x s = (s.entry.origin.place ≤ MAX_PLACES) × Accepts (content_of x.catalogue) s.entry × (s.after.history ≡ x.prefix.history)
+Follows x s = (s.entry.origin.place ≤ MAX_LINES) × Accepts (content_of x.catalogue) s.entry × (s.after.history ≡ x.prefix.history)
     × (s.after.log ≡ extended x.prefix.log s.entry)
 
 -- something of this history and this limit is known

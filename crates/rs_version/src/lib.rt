@@ -9,8 +9,9 @@
 //! together, and [`Blank::open`] makes them.
 //!
 //! The catalogue stands in two copies. One is published while the writer changes the other, and a publish swaps them. A seat takes
-//! the published catalogue, which is to count one more owner of its nodes, leaves, and answers from what it took. Before a copy is
-//! changed, the writer waits for the seats that are still inside of it: each for as long as that count takes, and none for a walk.
+//! the messages of the published one, which is to count one more owner of its nodes, leaves, and answers from what it took. Before a
+//! copy is changed, the writer waits for the seats that are still inside of it: each for as long as that count takes, and none for a
+//! walk.
 //!
 //! Not promised: that a publish returns, since it waits for seats; that a seat which learned nothing reads what was published
 //! last; that memory is there.

@@ -1,6 +1,6 @@
 //! What the writer gives: tokens of published lists, and receipts of entries.
 
-ghost use Rattle.std.specs.Prelude.{◌≡◌, length, MatchBool};
+ghost use Rattle.std.specs.Prelude.{◌≡◌, ◌⊎◌, length, MatchBool};
 ghost use mathlib.Core.List.{IsPrefix};
 ghost use Rattle.rs_store.specs.History.{IsLegal};
 ghost use Rattle.rs_version.specs.Receipts.{StandsAt};
@@ -55,6 +55,15 @@ impl<N: StoreName> Told<N> {
         ensures legal { IsLegal N.limit self.now × IsLegal N.limit other.now }
     {
         self.list.reaches(&other.list)
+    }
+
+    /// Says that any two tokens of a store agree: one list is a prefix of the other.
+    pub fn note_agrees(&self, other: &Told<N>)
+        ensures prefix { IsPrefix other.now self.now ⊎ IsPrefix self.now other.now }
+        ensures legal { IsLegal N.limit self.now × IsLegal N.limit other.now }
+    {
+        // For the proof: this call says which is a prefix of the other.
+        let _longer = self.reaches(other);
     }
 }
 

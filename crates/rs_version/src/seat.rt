@@ -15,6 +15,7 @@ use crate::named::NamedList;
 use crate::receipt::Told;
 use crate::rule::Sees;
 use crate::version::Version;
+use core::mem::replace_with;
 use rs_message::Found;
 use rs_store::Catalogue;
 use rs_topic::TopicFilter;
@@ -35,12 +36,12 @@ pub struct Snapshot {
 /// It reads the published copy without waiting, whatever the writer does. It never reads less than it knows.
 #[derive(Drop)]
 pub struct Seat<N: StoreName> {
-    reader: Option<CopyReader>,
+    reader: CopyReader,
     known: NamedList<N>,
 }
 
 impl<N: StoreName> Model for Seat<N> {
-    ghost use Rattle.std.specs.Prelude.{List, MatchOption};
+    ghost use Rattle.std.specs.Prelude.{List};
     ghost use Rattle.left_right.specs.Sides.{view as known_by};
     ghost use Rattle.rs_message.specs.declared.entry.Entry.{Entry};
     ghost use Rattle.rs_version.specs.VersionRule.{Names};
@@ -49,10 +50,10 @@ impl<N: StoreName> Model for Seat<N> {
 
     ghost view = { λ s. s.known };
 
-    ghost invariant = { λ s. MatchOption s.reader (Unit {0}) (λ r. Names N.history N.limit (known_by r.place)) };
+    ghost invariant = { λ s. Names N.history N.limit (known_by s.reader.place) };
 }
 
-/// The version that the published copy is of, with one more owner of its catalogue. An error if its list is shorter than the known
+/// The version that the published copy is of, with one more owner of its messages. An error if its list is shorter than the known
 /// one.
 fn take_from<N: StoreName>(
     published: &CatalogueCopy,
@@ -70,7 +71,27 @@ fn take_from<N: StoreName>(
         // not of what was learned from a token.
         return Err(AllocError);
     }
-    Ok(Version::new(list, published.catalogue.copy()?))
+    Ok(Version::new(list, published.catalogue.messages()?))
+}
+
+/// The reader enters the published copy, takes its version, and leaves. It is inside for as long as a count takes, so a publish does
+/// not wait for a walk.
+fn take_by<N: StoreName>(
+    reader: CopyReader,
+    known: &NamedList<N>,
+) -> (CopyReader, Result<Version<N>, AllocError>)
+    requires { Names N.history N.limit (view reader.place) }
+    ensures reader { Names N.history N.limit (view result.0.place) }
+    ensures later { IfOk result.1 (λ v. IsPrefix known.now v) }
+    ensures legal { IfOk result.1 (λ v. IsLegal N.limit v) }
+{
+    match reader.enter_as::<Sees>() {
+        Ok(reading) => {
+            let taken = take_from(reading.get(), known);
+            (reading.leave(), taken)
+        }
+        Err(reader) => (reader, Err(AllocError)),
+    }
 }
 
 /// What the version answers, with its number of entries.
@@ -114,10 +135,7 @@ impl<N: StoreName> Seat<N> {
         requires { Names N.history N.limit (view reader.place) }
         ensures { result ≡ known }
     {
-        Seat {
-            reader: Some(reader),
-            known,
-        }
+        Seat { reader, known }
     }
 
     /// The number of entries of the known list.
@@ -153,28 +171,25 @@ impl<N: StoreName> Seat<N> {
         }
     }
 
-    /// Takes the version out of the published copy. The seat is inside of it for as long as a count takes, so a publish does not
-    /// wait for a walk.
+    /// Takes the version out of the published copy.
     fn take(&mut self) -> Result<Version<N>, AllocError>
         ensures same { self.new ≡ self.old }
         ensures later { IfOk result (λ v. IsPrefix self.old v) }
         ensures legal { IfOk result (λ v. IsLegal N.limit v) }
     {
-        let Some(reader) = self.reader.take() else {
-            // Never: the reader is put back after each read.
-            return Err(AllocError);
-        };
-        match reader.enter_as::<Sees>() {
-            Ok(reading) => {
-                let taken = take_from(reading.get(), &self.known);
-                self.reader = Some(reading.leave());
-                taken
-            }
-            Err(reader) => {
-                self.reader = Some(reader);
-                Err(AllocError)
-            }
-        }
+        replace_with(
+            &mut self.reader,
+            &self.known,
+            |reader: CopyReader, known: &NamedList<N>| -> (
+                CopyReader,
+                Result<Version<N>, AllocError>,
+            )
+                requires { Names N.history N.limit (view reader.place) }
+                ensures reader { Names N.history N.limit (view result.0.place) }
+                ensures later { IfOk result.1 (λ v. IsPrefix known.now v) }
+                ensures legal { IfOk result.1 (λ v. IsLegal N.limit v) }
+            { take_by(reader, known) },
+        )
     }
 
     /// Makes the known list that of the version.
@@ -201,7 +216,7 @@ impl<N: StoreName> Seat<N> {
         Ok(version)
     }
 
-    /// Takes the catalogue out of the published copy, and answers from it: copies of the messages that the filter matches and that
+    /// Takes the messages out of the published copy, and answers from them: copies of the messages that the filter matches and that
     /// have not expired at `now`, in seconds, in the order of replay (3.8.4). It waits for nobody.
     ///
     /// # Errors

@@ -10,7 +10,7 @@ use super::joined::{
 };
 use super::lengths::check_lengths;
 use super::wide::{check_grown, check_swept_grown};
-use rs_message::{Entry, Operation};
+use rs_message::{Entry, Found, Operation};
 use rs_message_kit::{clear, origin, set_at};
 use rs_store::{CalmCatalogue, Catalogue, MapCatalogue, Refusal, TopicLimit};
 use rs_topic::TopicFilter;
@@ -137,6 +137,18 @@ pub fn put<C: Catalogue>(
     Ok(store.add(Entry { origin, operation }))
 }
 
+/// The topics and payloads.
+pub fn shown(alloc: Global, found: &Vec<Found>) -> Result<Vec<u8>, AllocError> {
+    let mut all = Vec::new(alloc);
+    for one in found {
+        all.extend_from_slice(one.topic().as_bytes())?;
+        all.push(b'=')?;
+        all.extend_from_slice(one.message().payload().as_slice())?;
+        all.push(b' ')?;
+    }
+    Ok(all)
+}
+
 /// The topics and payloads that a filter is answered at a given time.
 pub fn answer_of<C: Catalogue>(
     alloc: Global,
@@ -144,14 +156,7 @@ pub fn answer_of<C: Catalogue>(
     filter: &TopicFilter,
     now: u64,
 ) -> Result<Vec<u8>, AllocError> {
-    let mut all = Vec::new(alloc);
-    for one in &catalogue.answer(filter, now)? {
-        all.extend_from_slice(one.topic().as_bytes())?;
-        all.push(b'=')?;
-        all.extend_from_slice(one.message().payload().as_slice())?;
-        all.push(b' ')?;
-    }
-    Ok(all)
+    shown(alloc, &catalogue.answer(filter, now)?)
 }
 
 /// The filter is answered alike at a given time. Says whether there was anything to find.

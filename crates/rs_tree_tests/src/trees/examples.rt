@@ -3,12 +3,12 @@
 ghost use Rattle.std.specs.Prelude.{◌≡◌, false, IfSome};
 ghost use Rattle.rs_message.specs.Messages.{is_sweep};
 
-use rs_message::{Entry, Operation, Origin};
+use rs_message::{Entry, Found, MAX_LINES, Operation, Origin};
 use rs_message_kit::{clear, origin, set_at};
-use rs_store::{CalmCatalogue, Catalogue, MapCatalogue, Refusal, TopicLimit};
+use rs_store::{CalmCatalogue, Catalogue, MapCatalogue, Messages, Refusal, TopicLimit};
 use rs_topic::TopicFilter;
 use rs_tree::TreeCatalogue;
-use std::alloc::Global;
+use std::alloc::{AllocError, Global};
 use std::process::Abort;
 use std::test::Fail;
 
@@ -17,7 +17,7 @@ use std::test::Fail;
 enum Change {
     /// A Set at place 1: the topic, when the message came, and its interval.
     Set(u64, &'static [u8], u64, Option<u32>),
-    /// A Clear at place 2.
+    /// A Clear at the last place.
     Clear(u64, &'static [u8]),
     /// The writer's Sweep of a moment.
     Sweep(u64, u64),
@@ -29,7 +29,7 @@ enum Fact {
     /// The version, and how many messages it holds.
     Numbers(u64, u32),
     /// The last serial of a place.
-    Serial(u8, u64),
+    Serial(u16, u64),
     /// The topics that a filter is answered at a given time, each followed by a space.
     Topics(&'static [u8], u64, &'static [u8]),
     /// How many messages are expired at a moment.
@@ -59,7 +59,7 @@ fn operation_of(alloc: Global, change: Change) -> Option<Operation>
 fn origin_of(change: Change) -> Result<Origin, Fail> {
     match change {
         Change::Set(serial, _, _, _) => origin(1, serial),
-        Change::Clear(serial, _) => origin(2, serial),
+        Change::Clear(serial, _) => origin(MAX_LINES, serial),
         Change::Sweep(serial, _) => Ok(Origin::of_writer(serial).ok_or("no serial")?),
     }
 }
@@ -102,6 +102,16 @@ pub fn take<C: Catalogue>(catalogue: &mut C, entry: Entry) -> Result<Option<Refu
     }
 }
 
+/// Whether these topics were found, each followed by a space.
+fn are_of(alloc: Global, found: &Vec<Found>, topics: &[u8]) -> Result<bool, AllocError> {
+    let mut all = Vec::new(alloc);
+    for one in found {
+        all.extend_from_slice(one.topic().as_bytes())?;
+        all.push(b' ')?;
+    }
+    Ok(all.as_slice() == topics)
+}
+
 fn answers<C: Catalogue>(
     alloc: Global,
     catalogue: &C,
@@ -110,12 +120,29 @@ fn answers<C: Catalogue>(
     topics: &[u8],
 ) -> Result<bool, Fail> {
     let filter = TopicFilter::read(alloc, filter)?;
-    let mut all = Vec::new(alloc);
-    for one in &catalogue.answer(&filter, now)? {
-        all.extend_from_slice(one.topic().as_bytes())?;
-        all.push(b' ')?;
-    }
-    Ok(all.as_slice() == topics)
+    let found = catalogue.answer(&filter, now)?;
+    Ok(are_of(alloc, &found, topics)?)
+}
+
+/// The same of messages that were taken out of a catalogue, without a limit and within a room.
+fn are_answered<M: Messages>(
+    alloc: Global,
+    messages: &M,
+    filter: &[u8],
+    now: u64,
+    topics: &[u8],
+) -> Result<bool, Fail> {
+    let filter = TopicFilter::read(alloc, filter)?;
+    let found = messages.answer(&filter, now)?;
+    let is_within = match messages.answer_within(&filter, now, found.len())? {
+        Some(within) => are_of(alloc, &within, topics)?,
+        None => false,
+    };
+    let is_beyond = match found.len().checked_sub(1) {
+        Some(less) => messages.answer_within(&filter, now, less)?.is_none(),
+        None => true,
+    };
+    Ok(is_within && is_beyond && are_of(alloc, &found, topics)?)
 }
 
 fn says<C: Catalogue>(alloc: Global, catalogue: &C, fact: Fact) -> Result<bool, Fail> {
@@ -177,8 +204,23 @@ fn check_says_all<C: Catalogue>(
     Ok(())
 }
 
-/// Makes the first steps in a store. Then it says what it has to, and so does a copy of its catalogue once the other steps are made. It is
-/// known by the bound alone.
+/// The messages answer all of this. They have no numbers.
+fn check_answer_all<M: Messages>(
+    rt: &impl Abort,
+    alloc: Global,
+    messages: &M,
+    facts: &[Fact],
+) -> Result<(), Fail> {
+    for fact in facts {
+        if let Fact::Topics(filter, now, topics) = *fact {
+            assert!(rt; are_answered(alloc, messages, filter, now, topics)?);
+        }
+    }
+    Ok(())
+}
+
+/// Makes the first steps in a store. Then it says what it has to, and so do a copy of its catalogue and its messages once the other steps
+/// are made. It is known by the bound alone.
 fn check_steps<C: Catalogue + Drop>(
     rt: &impl Abort,
     alloc: Global,
@@ -189,10 +231,10 @@ fn check_steps<C: Catalogue + Drop>(
     check_in_store(rt, alloc, store, steps[0])?;
     check_says_all(rt, alloc, store.catalogue(), facts)?;
     let copy = store.catalogue().copy()?;
-    match check_in_store(rt, alloc, store, steps[1]) {
-        Ok(()) => check_says_all(rt, alloc, &copy, facts),
-        Err(fail) => Err(fail),
-    }
+    let messages = store.catalogue().messages()?;
+    check_in_store(rt, alloc, store, steps[1])?;
+    check_says_all(rt, alloc, &copy, facts)?;
+    check_answer_all(rt, alloc, &messages, facts)
 }
 
 /// The same in a new store of so many topics.
@@ -240,9 +282,10 @@ const FULL_AND_STALE: &[Step] = &[
     Step::Takes(Change::Clear(1, b"d"), None),
     Step::Says(Fact::Numbers(4, 2)),
     Step::Says(Fact::Serial(1, 3)),
-    Step::Says(Fact::Serial(2, 1)),
-    Step::Says(Fact::Serial(3, 0)),
-    Step::Says(Fact::Serial(255, 0)),
+    Step::Says(Fact::Serial(2, 0)),
+    Step::Says(Fact::Serial(10_000, 1)),
+    Step::Says(Fact::Serial(10_001, 0)),
+    Step::Says(Fact::Serial(u16::MAX, 0)),
 ];
 
 #[test]
@@ -287,7 +330,7 @@ const AFTER_A_COPY: &[Step] = &[
     Step::Says(Fact::Numbers(5, 3)),
 ];
 
-/// A copy keeps what the first loses.
+/// A copy keeps what the first loses, and so do the messages that were taken out of it.
 const COPIED: &[Fact] = &[
     Fact::Topics(b"#", 109, b"a/b a.b c "),
     Fact::Topics(b"#", 110, b""),

@@ -1,11 +1,11 @@
-//! Copies of a tree that goes on changing: what they show never changes.
+//! Copies of a tree that goes on changing, and its messages: what they show never changes.
 
-use super::alike::{Draw, answer_of};
+use super::alike::{Draw, answer_of, shown as listed};
 use super::examples::take;
 use super::sweeps::{change_of, sweep_of};
-use rs_store::{Catalogue, TopicLimit};
+use rs_store::{Catalogue, Messages, TopicLimit};
 use rs_topic::TopicFilter;
-use rs_tree::TreeCatalogue;
+use rs_tree::{TreeCatalogue, TreeMessages};
 use std::alloc::{AllocError, Global};
 use std::process::Abort;
 use std::test::Fail;
@@ -17,11 +17,12 @@ const LATER: u64 = 1000;
 /// How often a thread copies the tree that it reads.
 const COPIES: u32 = 20;
 
-/// A copy, and what it showed after so many entries, when it was taken.
+/// A copy, the messages alone, and what they showed after so many entries, when they were taken.
 #[derive(Drop)]
 struct Snapshot {
     entries: u64,
     tree: TreeCatalogue,
+    messages: TreeMessages,
     shown: Vec<u8>,
 }
 
@@ -54,8 +55,26 @@ fn taken(
     Ok(Snapshot {
         entries,
         tree: tree.copy()?,
+        messages: tree.messages()?,
         shown: shown_by(alloc, tree, filter)?,
     })
+}
+
+/// Whether the messages answer as the tree that they were taken from, or a copy of it.
+fn answer_alike(
+    alloc: Global,
+    messages: &TreeMessages,
+    tree: &TreeCatalogue,
+    filter: &TopicFilter,
+) -> Result<bool, AllocError> {
+    for now in [90, 115, 140, 165] {
+        let wanted = answer_of(alloc, tree, filter, now)?;
+        let answer = listed(alloc, &messages.answer(filter, now)?)?;
+        if answer.as_slice() != wanted.as_slice() {
+            return Ok(false);
+        }
+    }
+    Ok(true)
 }
 
 /// A Set or a Clear, and now and then a Sweep of some moment.
@@ -81,6 +100,7 @@ fn check_later(
         if one.entries.saturating_add(LATER) == entries {
             let shown = shown_by(alloc, &one.tree, filter)?;
             assert!(rt; shown.as_slice() == one.shown.as_slice());
+            assert!(rt; answer_alike(alloc, &one.messages, &one.tree, filter)?);
             count = count.saturating_add(1);
         }
     }

@@ -20,8 +20,8 @@ type Outcome = (u64, u8);
 #[derive(Clone, Copy)]
 pub(crate) enum Change {
     /// Of a message that came at this moment, and lasts for so long, or for ever.
-    Set(u8, u64, u8, u64, Option<u32>),
-    Clear(u8, u64, u8),
+    Set(u16, u64, u8, u64, Option<u32>),
+    Clear(u16, u64, u8),
 }
 
 /// What a seat does. A token goes by its index.
@@ -67,7 +67,7 @@ fn entry_of(alloc: Global, change: Change) -> Option<Entry>
     let (place, serial) = match change {
         Change::Set(place, serial, _, _, _) | Change::Clear(place, serial, _) => (place, serial),
     };
-    let origin = Origin::new(place, serial)?;
+    let origin = Origin::of_line(place, serial)?;
     let operation = operation_of(alloc, change)?;
     Some(Entry { origin, operation })
 }
@@ -137,6 +137,7 @@ fn is_seen<N: StoreName>(
         Look::Compares(token, wanted) => {
             let token = tokens.get(token)?;
             let own = seat.told();
+            own.note_agrees(token);
             Some(own.reaches(token) == wanted.0 && token.reaches(&own) == wanted.1)
         }
         Look::Reads(now, version, topics) => {

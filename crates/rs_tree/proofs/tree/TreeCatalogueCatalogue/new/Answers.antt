@@ -1,5 +1,7 @@
-use Rattle.rs_tree.proofs.Trees.{empty_tree}
+use Rattle.std.proofs.Common.{◌∙◌, ℕ, List, [], ap}
+use Rattle.rs_message.specs.Values.{MessageValue}
+use Rattle.rs_store.specs.Ledgers.{LedgerValue, content_of}
 use Rattle.rs_tree.proofs.tree.TreeCatalogueCatalogue.new.Goals as goal
 
-pub invariant_of-result : goal.invariant_of-result
-invariant_of-result c = empty_tree c.in_ok-new.field-0 c.new-3.result.limit c.in_ok-new.ensures
+pub returns : goal.returns
+returns c = ap (λ (l : List (List ℕ × MessageValue)). content_of l c.in_ok-new-2.field-0) c.in_ok-new.ensures ∙ ap (λ (l : LedgerValue). content_of [] l) c.in_ok-new-2.ensures

@@ -3,7 +3,7 @@ use Rattle.rs_topic.specs.Rests.{levels_from}
 use Rattle.rs_branch.specs.Spots.{pairs}
 use Rattle.rs_topic.proofs.Rests.{from_start}
 use Rattle.rs_tree.proofs.Trees.{pairs_insert, placed_insert, set_old, set_new}
-use Rattle.rs_tree.proofs.tree.set_one.Goals as goal
+use Rattle.rs_tree.proofs.messages.set_one.Goals as goal
 
 pub returns-then-was-clause-done : goal.returns-then-was-clause-done
 returns-then-was-clause-done c = ap pairs c.in_ok-was.ensures.done ∙ pairs_insert c.args.root.now (levels_from 0 c.args.found.topic) c.args.found c.requires.placed (from_start c.args.found.topic)

@@ -3,7 +3,7 @@ use Rattle.std.specs.List.{filter}
 use Rattle.rs_store.specs.Contents.{found_of, if_fits, is_answered}
 use Rattle.rs_branch.specs.Spots.{pairs}
 use Rattle.rs_store.proofs.Rooms.{always_fits}
-use Rattle.rs_tree.proofs.tree.TreeCatalogueCatalogue.answer.Goals as goal
+use Rattle.rs_tree.proofs.messages.TreeMessagesMessages.answer.Goals as goal
 
 pub returns-in-None : goal.returns-in-None
 returns-in-None c =

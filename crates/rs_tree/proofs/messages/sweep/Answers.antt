@@ -3,7 +3,7 @@ use Rattle.rs_store.specs.Contents.{stays}
 use Rattle.rs_store.proofs.Maps.{filter_few}
 use Rattle.rs_branch.specs.Spots.{pairs}
 use Rattle.rs_tree.proofs.Trees.{left_counted, pairs_swept, placed_swept}
-use Rattle.rs_tree.proofs.tree.sweep.Goals as goal
+use Rattle.rs_tree.proofs.messages.sweep.Goals as goal
 
 pub overflow_cast-result : goal.overflow_cast-result
 overflow_cast-result c =

@@ -8,7 +8,7 @@ use Rattle.rs_branch.specs.Chosen.{chosen_at_root}
 use Rattle.rs_topic.proofs.Rests.{from_start}
 use Rattle.rs_tree.proofs.Trees.{answered}
 use Rattle.rs_store.proofs.Rooms.{some_fits, none_fits}
-use Rattle.rs_tree.proofs.tree.answers.Goals as goal
+use Rattle.rs_tree.proofs.messages.answers.Goals as goal
 
 pub returns-in-Ok : goal.returns-in-Ok
 returns-in-Ok c =

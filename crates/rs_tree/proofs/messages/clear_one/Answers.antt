@@ -7,7 +7,7 @@ use Rattle.rs_bucket.specs.Spots.{is_there}
 use Rattle.rs_branch.specs.Spots.{pairs}
 use Rattle.rs_topic.proofs.Rests.{from_start}
 use Rattle.rs_tree.proofs.Trees.{pairs_remove, placed_remove, clear_old, clear_none}
-use Rattle.rs_tree.proofs.tree.clear_one.Goals as goal
+use Rattle.rs_tree.proofs.messages.clear_one.Goals as goal
 
 pub returns-then-was-clause-done : goal.returns-then-was-clause-done
 returns-then-was-clause-done c =

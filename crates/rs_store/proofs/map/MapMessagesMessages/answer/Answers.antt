@@ -2,7 +2,7 @@ use Rattle.std.proofs.Common.{◌≡◌, ◌≤◌, length, map, arith, None}
 use Rattle.std.specs.List.{filter}
 use Rattle.rs_store.specs.Contents.{found_of, if_fits, is_answered}
 use Rattle.rs_store.proofs.Rooms.{always_fits}
-use Rattle.rs_store.proofs.map.MapCatalogueCatalogue.answer.Goals as goal
+use Rattle.rs_store.proofs.map.MapMessagesMessages.answer.Goals as goal
 
 pub returns-in-None : goal.returns-in-None
 returns-in-None c =

@@ -1,0 +1,7 @@
+use Rattle.std.proofs.Common.{◌≡◌, ◌∙◌, ℕ, List, [], ap}
+use Rattle.rs_message.specs.Values.{MessageValue}
+use Rattle.rs_store.specs.Ledgers.{LedgerValue, content_of}
+use Rattle.rs_store.proofs.map.MapCatalogueCatalogue.new.Goals as goal
+
+pub returns : goal.returns
+returns c = ap (λ (l : List (List ℕ × MessageValue)). content_of l c.in_ok-new.field-0) c.new.ensures.empty ∙ ap (λ (l : LedgerValue). content_of [] l) c.in_ok-new.ensures
