@@ -1,13 +1,11 @@
 -- Why the writer's loop ended. As many Ends as places are those of all places.
-use Rattle.std.proofs.Common.{◌≡◌, ◌==◌, ℕ, zero, suc, ◌+◌, ◌<◌, ◌≤◌, ⊎_elim, Bool, true, false, cond, List, [], ◌∷◌, length, sym, ap, subst, ◌∙◌, arith}
+use Rattle.std.proofs.Common.{◌≡◌, ◌==◌, ℕ, zero, suc, ◌+◌, ◌<◌, ◌≤◌, ⊎_elim, Bool, true, false, cond, List, [], ◌∷◌, length, sym, ap, ◌∙◌, arith}
 use Rattle.std.proofs.lemmas.Bool.{cases_lt}
 use Rattle.std.specs.List.{AllByRecursion}
 use Rattle.rs_message.specs.declared.entry.Entry.{Entry}
 use Rattle.rs_queue.specs.Changes.{place_of_all}
-use Rattle.rs_intake.specs.Causes.{HaveEnded, IsCause}
-use Rattle.rs_line.specs.Lines.{Received}
+use Rattle.rs_intake.specs.Causes.{HaveEnded}
 use Rattle.rs_queue.specs.QueueRule.{AreEnds, IsOutside, at_place}
-use Rattle.rs_intake.specs.declared.cause.Cause.{Cause}
 use Rattle.rs_queue.proofs.Queues.{at_place-head, at_place-tail}
 use Rattle.rs_intake.proofs.Sums.{inside, sum_to, sum_to-add, sum_to-same, there_once, zeros}
 
@@ -42,17 +40,19 @@ each_one (suc n) f small whole p low high =
     (λ (t : p ≤ n). each_one n f small (omega (arith, most, one, whole)) p low t)
     (cases_lt n p)
 
+-- there are no more Ends than places
+pub few_ends : (places : ℕ) (ends : List ℕ) → AreEnds places ends → length ends ≤ places
+few_ends places ends are =
+    let f : ℕ → ℕ = λ p. length (at_place p ends) in
+    let all : length ends ≡ sum_to places f = ends_by_places places ends (λ place out. (are place).1 out) in
+    let few = sum_small places f (λ p. (are p).0) in
+    omega (arith, all, few)
+
 pub all_ended : (places : ℕ) (ends : List ℕ) → AreEnds places ends → length ends ≡ places → HaveEnded places ends
 all_ended places ends are count =
     let f : ℕ → ℕ = λ p. length (at_place p ends) in
     let all : length ends ≡ sum_to places f = ends_by_places places ends (λ place out. (are place).1 out) in
     each_one places f (λ p. (are p).0) (sym all ∙ count)
-
-pub cause_same : (places most : ℕ) (received received' : Received) (cause cause' : Cause) → received' ≡ received → cause' ≡ cause → IsCause places most received cause → IsCause places most received' cause'
-cause_same places most received received' cause cause' same alike is =
-    let P : Received → Type 0 = λ j. IsCause places most j cause' in
-    let Q : Cause → Type 0 = λ k. IsCause places most received k in
-    subst P (sym same) (subst Q (sym alike) is)
 
 -- the place of changes that are of places which have a line
 pub placed_first : (places : ℕ) (es : List Entry) → AllByRecursion (λ (e : Entry). ¬ IsOutside places e.origin.place) es → place_of_all es ≤ places

@@ -1,5 +1,5 @@
 -- What was done with the entries that the writer took, one after the other.
-use Rattle.std.proofs.Common.{◌≡◌, ℕ, zero, suc, ◌+◌, Bool, true, false, cond, All, ◌<◌, ◌≤◌, ◌||◌, List, [], ◌∷◌, ◌++◌, length, replicate, map, inl, inr, refl, sym, ap, subst, ◌∙◌, append_assoc, length-append, zero-add, Ok, Err, OnOk, IfOk, IfErr, arith}
+use Rattle.std.proofs.Common.{◌≡◌, ℕ, zero, suc, ◌+◌, Bool, true, false, cond, All, ◌<◌, ◌≤◌, ◌||◌, List, [], ◌∷◌, ◌++◌, length, map, inl, inr, refl, sym, ap, subst, ◌∙◌, append_assoc, length-append, zero-add, Ok, Err, OnOk, IfOk, IfErr, arith}
 use Rattle.std.specs.List.{AllByRecursion, filter}
 use Rattle.std.proofs.lemmas.List.{append-nil}
 use Rattle.std.proofs.lemmas.List.Elements.{filter-append}
@@ -10,12 +10,11 @@ use Rattle.rs_store.specs.History.{SerialsRise, cleaned, extended}
 use Rattle.rs_version.specs.Writer.{Refuses, Written, kept_of, shows}
 use Rattle.rs_version.specs.declared.fault.PutFault.TheVariants.{Full, Held, NoMemory, Stale}
 use Rattle.rs_queue.specs.Changes.{AreOf, AreOfOneJob, ArePlain, place_of_all}
-use Rattle.rs_line.specs.Done.{Outcome, AreOutcomes, AreDone, AreRefusedBehind, AreReplied, IsOutcome, IsDone, IsPut, AreTold, IsWritten, ReplyValue, Told, has_held, is_held, is_refused, not_refused, refused_reply, refused_in, replies_to, untold}
+use Rattle.rs_line.specs.Done.{Outcome, AreOutcomes, AreDone, AreRefusedBehind, AreReplied, IsOutcome, IsDone, IsPut, ReplyValue, has_held, is_held, is_refused, not_refused, refused_reply, refused_in, replies_to}
 use Rattle.rs_queue.specs.Parts.{IsPart}
-use Rattle.rs_line.specs.Sending.{AreSentTo, AreToPut, ArePut}
+use Rattle.rs_line.specs.Sending.{AreToPut, ArePut}
 use Rattle.rs_line.specs.Sweeps.{AreForEntries, IsKeptFrom, IsSweptAtMost, without_sweeps}
 use Rattle.rs_queue.proofs.Parts.{all_append, part_front, part_rises}
-use Rattle.rs_intake.proofs.Telling.{told_more, told_none}
 use Rattle.rs_intake.proofs.Sweeps.{entry_rises, adds_kept, held_kept, no_memory_kept, kept_from_entry, kept_from_refused, kept_from_start, released_kept, without_cleaned, without_more}
 
 -- ---- a put
@@ -81,14 +80,14 @@ without_done limit kept entry outcome kept' plain is = go (is_refused outcome) r
     go true goes = without_swept limit kept entry kept' (swept_if_done limit kept entry outcome kept' is goes) ∙ sym (append-nil (without_sweeps kept))
 
 -- more entries
-done_append : (limit : ℕ) (first entries : List Entry) (outcomes : List Outcome) (kept more : List Entry) (behind : List Outcome) (kept' : List Entry)
+pub done_append : (limit : ℕ) (first entries : List Entry) (outcomes : List Outcome) (kept more : List Entry) (behind : List Outcome) (kept' : List Entry)
     → AreDone limit first entries outcomes kept → AreDone limit kept more behind kept' → AreDone limit first (entries ++ more) (outcomes ++ behind) kept'
 done_append limit first [] [] kept more behind kept' are rest = let P : List Entry → Type 0 = λ l. AreDone limit l more behind kept' in subst P are rest
 done_append limit first [] (a ∷ outcomes) kept more behind kept' are rest = absurd are
 done_append limit first (e ∷ entries) [] kept more behind kept' are rest = absurd are
 done_append limit first (e ∷ entries) (a ∷ outcomes) kept more behind kept' are rest = (are.0, are.1, done_append limit are.0 entries outcomes kept more behind kept' are.2 rest)
 
-not_refused_append : (limit : ℕ) (first entries : List Entry) (outcomes : List Outcome) (kept more : List Entry) (behind : List Outcome) → AreDone limit first entries outcomes kept
+pub not_refused_append : (limit : ℕ) (first entries : List Entry) (outcomes : List Outcome) (kept more : List Entry) (behind : List Outcome) → AreDone limit first entries outcomes kept
     → not_refused (entries ++ more) (outcomes ++ behind) ≡ not_refused entries outcomes ++ not_refused more behind
 not_refused_append limit first [] [] kept more behind are = refl
 not_refused_append limit first [] (a ∷ outcomes) kept more behind are = absurd are
@@ -101,7 +100,7 @@ not_refused_append limit first (e ∷ entries) (a ∷ outcomes) kept more behind
     go true same = same
     go false same = ap (λ l. e ∷ l) same
 
-without_all : (limit : ℕ) (kept entries : List Entry) (outcomes : List Outcome) (kept' : List Entry) → ArePlain entries → AreDone limit kept entries outcomes kept'
+pub without_all : (limit : ℕ) (kept entries : List Entry) (outcomes : List Outcome) (kept' : List Entry) → ArePlain entries → AreDone limit kept entries outcomes kept'
     → without_sweeps kept' ≡ without_sweeps kept ++ not_refused entries outcomes
 without_all limit kept [] [] kept' plain are = ap without_sweeps are ∙ sym (append-nil (without_sweeps kept))
 without_all limit kept [] (a ∷ outcomes) kept' plain are = absurd are
@@ -173,7 +172,7 @@ outcomes_append limit first [] (a ∷ outcomes) w more behind w' are rest = absu
 outcomes_append limit first (e ∷ entries) [] w more behind w' are rest = absurd are
 outcomes_append limit first (e ∷ entries) (a ∷ outcomes) w more behind w' are rest = (are.0, are.1, outcomes_append limit are.0 entries outcomes w more behind w' are.2 rest)
 
-replies_append : (limit : ℕ) (first entries : List Entry) (outcomes : List Outcome) (kept more : List Entry) (behind : List Outcome) → AreDone limit first entries outcomes kept
+pub replies_append : (limit : ℕ) (first entries : List Entry) (outcomes : List Outcome) (kept more : List Entry) (behind : List Outcome) → AreDone limit first entries outcomes kept
     → replies_to (entries ++ more) (outcomes ++ behind) ≡ replies_to entries outcomes ++ replies_to more behind
 replies_append limit first [] [] kept more behind are = refl
 replies_append limit first [] (a ∷ outcomes) kept more behind are = absurd are
@@ -230,6 +229,21 @@ put_none limit w held rest replies none = record {
   behind = (λ is. tt);
   held_is = sym (or_false held);
 }
+
+-- a change is put that is a job of its own
+pub replied_one : (limit : ℕ) (w : Written) (entry : Entry) (reply : ReplyValue) (count : ℕ) (w' : Written)
+    → IsDone limit (kept_of w) entry reply.outcome (kept_of w') → reply.origin ≡ entry.origin → IsOutcome limit w entry reply.outcome w'
+    → count ≡ refused_in (reply.outcome ∷ []) → AreReplied limit w (entry ∷ []) (reply ∷ []) count w'
+replied_one limit w entry reply count w' done origin outcome_is number =
+    let outcome = reply.outcome in
+    record {
+      outcomes = outcome ∷ [];
+      done = (kept_of w', done, refl);
+      outcomes_are = (w', outcome_is, refl);
+      behind = ((λ is. tt), tt);
+      replies_are = ap (λ o. record { origin = o; outcome = outcome } ∷ []) origin;
+      refused_are = number;
+    }
 
 pub put_one : (limit : ℕ) (w : Written) (held : Bool) (rest rest' : List Entry) (entry : Entry) (reply : ReplyValue) (count : ℕ) (held' : Bool) (w' : Written)
     → rest ≡ entry ∷ rest' → IsDone limit (kept_of w) entry reply.outcome (kept_of w') → reply.origin ≡ entry.origin → IsOutcome limit w entry reply.outcome w'
@@ -377,65 +391,3 @@ all_put limit w changes replies refused held rest w' none p =
     let same : changes ≡ p.first = p.are ∙ (ap (λ l. p.first ++ l) none ∙ append-nil p.first) in
     let P : List Entry → Type 0 = λ l. AreReplied limit w l replies refused w' in
     subst P (sym same) p.replied
-
--- ---- the writer's loop
-
--- what the loop knows of what it took, kept, refused and told
-pub record IsUnderWay (limit places : ℕ) (entries kept : List Entry) (ways : List Told) (taken refused : ℕ) : Type 0 where
-  pub kept_from : IsKeptFrom limit entries kept
-  pub number : taken ≡ length entries
-  pub sum : length (without_sweeps kept) + refused ≡ taken
-  pub written : IsWritten limit places entries kept ways
-
--- nothing was taken
-pub none_taken : (limit places : ℕ) (entries kept : List Entry) (ways : List Told) → entries ≡ [] → kept ≡ [] → ways ≡ replicate places untold → IsUnderWay limit places entries kept ways 0 0
-none_taken limit places entries kept ways none empty new =
-    let P : List Entry → Type 0 = λ l. IsUnderWay limit places l kept ways 0 0 in
-    let Q : List Entry → Type 0 = λ l. IsUnderWay limit places [] l ways 0 0 in
-    subst P (sym none) (subst Q (sym empty) (
-    record {
-      kept_from = kept_from_start limit [] [] refl refl;
-      number = refl;
-      sum = refl;
-      written = record { outcomes = []; done = refl; changes = refl; told = told_none places ways new };
-    }
-    ))
-
--- the same once it has put the changes of one job more
-pub one_more : (limit places : ℕ) (entries entries' changes : List Entry) (replies : List ReplyValue) (w w' : Written) (ways ways' : List Told) (taken refused count : ℕ) → entries' ≡ entries ++ changes
-    → AreOfOneJob changes → place_of_all changes ≤ places → IsUnderWay limit places entries (kept_of w) ways taken refused → AreReplied limit w changes replies count w'
-    → AreSentTo (place_of_all changes) ways replies ways' → IsUnderWay limit places entries' (kept_of w') ways' (taken + length changes) (refused + count)
-one_more limit places entries entries' changes replies w w' ways ways' taken refused count more are few u r to =
-    let written = u.written in
-    let all = all_kept_from limit entries changes r.outcomes (kept_of w) (kept_of w') u.kept_from (all_plain changes are.plain) r.done in
-    let S : List ReplyValue → Type 0 = λ l. AreSentTo (place_of_all changes) ways l ways' in
-    let told = told_more places (place_of_all changes) (replies_to entries written.outcomes) changes r.outcomes ways ways' are.above few are.place written.told (subst S r.replies_are to) in
-    let T : List ReplyValue → Type 0 = λ l. AreTold places l ways' in
-    let P : List Entry → Type 0 = λ l. IsUnderWay limit places l (kept_of w') ways' (taken + length changes) (refused + count) in
-    let n = length-append entries changes in
-    let number = u.number in
-    let sum = u.sum in
-    let rest = all.1 in
-    let refusals = r.refused_are in
-    subst P (sym more) (
-    record {
-      kept_from = all.0;
-      number = omega (arith, n, number);
-      sum = omega (arith, sum, rest, refusals);
-      written = record {
-        outcomes = written.outcomes ++ r.outcomes;
-        done = done_append limit [] entries written.outcomes (kept_of w) changes r.outcomes (kept_of w') written.done r.done;
-        changes = without_all limit (kept_of w) changes r.outcomes (kept_of w') are.plain r.done
-            ∙ (ap (λ l. l ++ not_refused changes r.outcomes) written.changes ∙ sym (not_refused_append limit [] entries written.outcomes (kept_of w) changes r.outcomes written.done));
-        told = subst T (sym (replies_append limit [] entries written.outcomes (kept_of w) changes r.outcomes written.done)) told;
-      };
-    }
-    )
-
--- what is left of the ways back tells the same
-pub written_same : (limit places : ℕ) (entries entries' kept kept' : List Entry) (ways ways' : List Told) → entries' ≡ entries → kept' ≡ kept → ways' ≡ ways → IsWritten limit places entries kept ways → IsWritten limit places entries' kept' ways'
-written_same limit places entries entries' kept kept' ways ways' same alike told w =
-    let P : List Entry → Type 0 = λ l. IsWritten limit places l kept' ways' in
-    let Q : List Entry → Type 0 = λ l. IsWritten limit places entries l ways' in
-    let R : List Told → Type 0 = λ l. IsWritten limit places entries kept l in
-    subst P (sym same) (subst Q (sym alike) (subst R (sym told) w))

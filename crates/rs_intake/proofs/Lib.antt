@@ -4,4 +4,6 @@ pub mod Done
 pub mod Opening
 pub mod Sums
 pub mod Causes
+pub mod Writers
 pub mod Sent
+pub mod Ordered

@@ -1,5 +1,5 @@
 -- What the writer keeps against what it took, with the Sweeps among it.
-use Rattle.std.proofs.Common.{◌≡◌, ◌≢◌, ◌==◌, ℕ, ◌+◌, ◌<◌, Bool, true, false, not, cond, List, [], ◌∷◌, ◌++◌, max, fold, map, length, inl, inr, refl, sym, ap, subst, ◌∙◌, ⊎_elim, length-append, Result, Ok, Err, OnOk, OnErr, None, arith}
+use Rattle.std.proofs.Common.{◌≡◌, ◌==◌, ℕ, ◌+◌, ◌<◌, Bool, true, false, not, cond, List, [], ◌∷◌, ◌++◌, max, fold, map, length, inl, inr, refl, sym, ap, subst, ◌∙◌, ⊎_elim, length-append, arith}
 use Rattle.std.specs.List.{AllByRecursion, filter}
 use Rattle.std.specs.Prelude.{Contains}
 use Rattle.std.proofs.lemmas.List.{append-nil}
@@ -76,18 +76,6 @@ entry_rises limit entries kept entry s place serial rises =
     let same : last_serial entry.origin.place (without_sweeps kept) ≡ last_serial entry.origin.place kept = ap (fold max 0) (same_serials entry.origin.place place kept zeros) in
     serials_rise_more kept entry s.rises (omega (arith, above, same))
 
-pub are_for_same : (limit : ℕ) (entries entries' kept kept' : List Entry) → entries' ≡ entries → kept' ≡ kept → AreForEntries limit entries kept → AreForEntries limit entries' kept'
-are_for_same limit entries entries' kept kept' same alike a =
-    let P : List Entry → Type 0 = λ l. AreForEntries limit l kept' in
-    let Q : List Entry → Type 0 = λ l. AreForEntries limit entries l in
-    subst P (sym same) (subst Q (sym alike) a)
-
-pub part_same : (entries entries' kept kept' : List Entry) → entries' ≡ entries → kept' ≡ kept → IsPart (without_sweeps kept) entries → IsPart (without_sweeps kept') entries'
-part_same entries entries' kept kept' same alike is =
-    let P : List Entry → Type 0 = λ l. IsPart (without_sweeps kept') l in
-    let Q : List Entry → Type 0 = λ l. IsPart (without_sweeps l) entries in
-    subst P (sym same) (subst Q (sym alike) is)
-
 -- what is kept from the entries, after one more
 abbrev pub OneMore : ℕ → List Entry → List Entry → List Entry → Type 0
 OneMore limit entries kept kept' = IsKeptFrom limit entries kept' × (length (without_sweeps kept') ≡ length (without_sweeps kept) + 1)
@@ -160,10 +148,6 @@ kept_from_start limit entries kept no_jobs none =
 
 pub released_kept : (w w' : Written) → w' ≡ released w → kept_of w' ≡ kept_of w
 released_kept w w' is = ap kept_of is ∙ append-nil (kept_of w)
-
-pub retried_kept : {A E : Type 0} (outcome : Result A E) (w w' : Written) → OnOk outcome (w' ≡ released w) → OnErr outcome ((w.held ≢ None) × (w' ≡ w)) → kept_of w' ≡ kept_of w
-retried_kept (Ok a) w w' done refused = released_kept w w' done
-retried_kept (Err e) w w' done refused = ap kept_of refused.1
 
 pub adds_kept : (limit : ℕ) (history : List Entry) (e : Entry) (w : Written) → Adds limit history e (λ list. w ≡ shows list) → Adds limit history e (λ list. kept_of w ≡ list)
 adds_kept limit history e w (inl a) = inl (a.0, ap kept_of a.1 ∙ append-nil (extended history e))

@@ -2,3 +2,4 @@ pub mod Causes
 pub mod Codes
 pub mod Law
 pub mod Settling
+pub mod Writers

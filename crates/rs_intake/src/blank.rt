@@ -3,32 +3,35 @@
 ghost use Rattle.std.specs.Prelude.{◌≡◌, ◌+◌, ◌<◌, ◌≤◌, [], true, false, IfOk};
 ghost use Rattle.crossbeam_channel.specs.Claims.{view as known_by};
 ghost use Rattle.crossbeam_channel.specs.Ends.{sends_on};
-ghost use Rattle.rs_message.specs.declared.entry.TheConstants.{MAX_PLACES};
+ghost use Rattle.rs_message.specs.declared.entry.TheConstants.{MAX_LINES};
 ghost use Rattle.rs_line.specs.Names.{IsQueue, IsIn};
 ghost use Rattle.rs_line.specs.Done.{untold};
-ghost use Rattle.rs_line.specs.Lines.{new_lines};
+ghost use Rattle.rs_line.specs.Lines.{new_line, new_lines};
+ghost use Rattle.rs_queue.specs.declared.job.TheConstants.{MAX_CHANGES};
+ghost use Rattle.rs_line.specs.declared.reply.TheConstants.{FEW_REPLIES};
 
 use crate::taken::Taken;
 use crate::ways_back::WaysBack;
 use crate::writer::Queue;
 use crossbeam_channel::{Pass, bounded_with};
 use rs_line::{
-    Fullness, FullnessWriter, Intake, LineName, LineSender, ReplySender, SeatLine, way_back,
+    FEW_REPLIES, Fullness, FullnessWriter, Intake, LineName, LineSender, ReplySender, SeatLine,
+    way_back,
 };
-use rs_message::PlaceCount;
+use rs_message::{LineCount, MAX_PLACES};
 use rs_queue::steps::cut;
-use rs_queue::{Job, JobReceiver, JobSender, PassView, Polls, QueueRule};
+use rs_queue::{Job, JobReceiver, JobSender, MAX_CHANGES, PassView, Polls, QueueRule};
 use std::alloc::{AllocError, Global};
 use std::marker::Model;
 use std::sync::Arc;
 
-/// A queue without lines, before it has a name. Contracts see which one it is, and the number of its places.
+/// A queue without lines, before it has a name. Contracts see which one it is, and for how many lines, whose numbers are their places.
 #[derive(Drop)]
 pub struct BlankQueue {
     sender: JobSender,
     receiver: JobReceiver,
     pass: Pass<Job, PassView>,
-    places: PlaceCount,
+    lines: LineCount,
     fullness: Arc<Fullness>,
     polls: Polls,
     alloc: Global,
@@ -43,34 +46,46 @@ impl Model for BlankQueue {
 
     ghost Value = { Unnamed };
 
-    ghost view = { λ b. record { name = name_of (sends_on b.sender); places = b.places } };
+    ghost view = { λ b. record { name = name_of (sends_on b.sender); places = b.lines } };
 
     ghost invariant = { λ b. IsSeatAt (sends_on b.sender) b.pass × (receives_on b.receiver ≡ sends_on b.sender)
         × (known_by b.pass ≡ taker) };
 }
 
-/// A queue for so many places, which holds as many jobs.
+/// A queue for so many lines, which holds as many jobs.
 ///
 /// # Errors
 ///
 /// [`AllocError`] if memory is refused.
-pub fn blank_queue(alloc: Global, places: PlaceCount) -> Result<BlankQueue, AllocError>
-    ensures { IfOk result (λ b. b.places ≡ places) }
+pub fn blank_queue(alloc: Global, lines: LineCount) -> Result<BlankQueue, AllocError>
+    ensures { IfOk result (λ b. b.places ≡ lines) }
 {
     let (sender, receiver, pass) = bounded_with::<Job, PassView, QueueRule, Global>(
         alloc,
-        places.get() as usize,
+        lines.get() as usize,
     )?;
     let fullness = Arc::new(alloc, Fullness::new()).map_err(|_| AllocError)?;
     Ok(BlankQueue {
         sender,
         receiver,
         pass,
-        places,
+        lines,
         fullness,
         polls: Polls::untimed(),
         alloc,
     })
+}
+
+/// How many replies each message to a line has at least, but the last one to a job. If there are more lines than places, a thread serves
+/// many of them, each with a job of few changes: then all replies to a job are one message, and each way back is small.
+fn fewest_replies(lines: u16) -> usize
+    ensures { (FEW_REPLIES ≤ result) × (result ≤ MAX_CHANGES) }
+{
+    if lines > u16::from(MAX_PLACES) {
+        MAX_CHANGES
+    } else {
+        FEW_REPLIES
+    }
 }
 
 /// The line of the next place, and the writer's way back to it.
@@ -78,21 +93,23 @@ fn line<N: LineName>(
     alloc: Global,
     sender: &JobSender,
     pass: &mut Pass<Job, PassView>,
-    place: u8,
+    place: u16,
     polls: Polls,
+    fewest: usize,
 ) -> Result<(SeatLine<N>, ReplySender<N>), AllocError>
     requires queue { IsQueue N.queue (sends_on sender.now) × IsIn N.queue pass.old }
     requires pass { ((known_by pass.old).takes ≡ true) × ((known_by pass.old).sends ≡ false) × ((known_by pass.old).known ≡ [])
         × ((known_by pass.old).made + 1 ≡ place) }
-    requires place { (place ≤ N.places) × (N.places ≤ MAX_PLACES) }
-    ensures line { IfOk result (λ r. r.0 ≡ record { place = place; serial = 0; sent = []; heard = []; came = []; ahead = [] }) }
+    requires place { (place ≤ N.places) × (N.places ≤ MAX_LINES) }
+    requires fewest { (FEW_REPLIES ≤ fewest) × (fewest ≤ MAX_CHANGES) }
+    ensures line { IfOk result (λ r. r.0 ≡ new_line place) }
     ensures told { IfOk result (λ r. r.1 ≡ untold) }
     ensures queue { IfOk result (λ _. IsIn N.queue pass.new) }
     ensures pass { IfOk result (λ _. ((known_by pass.new).takes ≡ true) × ((known_by pass.new).sends ≡ false)
         × ((known_by pass.new).known ≡ []) × ((known_by pass.new).entries ≡ (known_by pass.old).entries)
         × ((known_by pass.new).ends ≡ (known_by pass.old).ends) × ((known_by pass.new).made ≡ place)) }
 {
-    let (to, from) = way_back(alloc, polls)?;
+    let (to, from) = way_back(alloc, polls, fewest)?;
     let own = sender.try_clone()?;
     let line = LineSender::new(place, own, cut(sender, pass));
     Ok((SeatLine::new(alloc, line, from), to))
@@ -116,7 +133,7 @@ impl BlankQueue {
             sender,
             receiver,
             pass,
-            places,
+            lines,
             fullness,
             polls: _,
             alloc,
@@ -125,7 +142,7 @@ impl BlankQueue {
             sender,
             receiver,
             pass,
-            places,
+            lines,
             fullness,
             polls,
             alloc,
@@ -147,23 +164,24 @@ impl BlankQueue {
             sender,
             receiver,
             mut pass,
-            places,
+            lines,
             fullness,
             polls,
             alloc,
         } = self;
-        let places = places.get();
+        let count = lines.get();
+        let fewest = fewest_replies(count);
         let mut lines = Vec::new(alloc);
         let mut replies = Vec::new(alloc);
-        for before in 0..places {
-            let (line, to) = line::<N>(alloc, &sender, &mut pass, before + 1, polls)?;
+        for before in 0..count {
+            let (line, to) = line::<N>(alloc, &sender, &mut pass, before + 1, polls, fewest)?;
             lines.push(line).map_err(|_| AllocError)?;
             replies.push(to).map_err(|_| AllocError)?;
         }
-        let ends = Vec::with_capacity(alloc, places as usize)?;
+        let ends = Vec::with_capacity(alloc, count as usize)?;
         let queue = Queue::new(
             receiver,
-            Taken::new(places, pass),
+            Taken::new(count, pass),
             WaysBack::new(alloc, replies, ends, FullnessWriter::new(fullness)),
             polls,
         );

@@ -9,6 +9,6 @@ pub enum Cause {
     AllEnded,
     /// At least as many entries were taken as may be, or fewer than [`MAX_CHANGES`](rs_queue::MAX_CHANGES) more can be counted.
     MostTaken,
-    /// A receive failed: all lines and their ends were gone.
+    /// The receive of a job failed, with this [`Gone`].
     QueueGone(Gone),
 }

@@ -1,8 +1,9 @@
 //! The writer's end of the queue: its loop, its ways back to the lines, and settling.
 //!
-//! [`run_writer`] takes jobs from the [`Queue`], puts each of their changes into the store, and replies to their line (`rs_line`). What it
-//! takes of a place is always a prefix of what the line sent ([`line_order_law`](rs_queue::line_order_law)), and what a line has received
-//! of the replies is a prefix of those that were sent to it ([`reply_order_law`]).
+//! [`run_writer`] takes jobs from the [`Queue`], puts each of their changes into the store, and replies to their line (`rs_line`). Each job is
+//! a step of a [`JobWriter`], which says at every moment what came of the jobs before. What is taken of a place is always a prefix of what
+//! the line sent ([`line_order_law`](rs_queue::line_order_law)), and what a line has received of the replies is a prefix of those that were
+//! sent to it ([`reply_order_law`]).
 //!
 //! When all lines and the writer have ended, [`settle`] says whether all that was sent was taken. [`BlankQueue::open`] makes the queue with
 //! its lines, under a name ([`LineName`](rs_line::LineName)).
@@ -25,4 +26,4 @@ pub use fault::SettleFault;
 pub use law::{outcomes_law, reply_order_law};
 pub use settling::settle;
 pub use taken::Taken;
-pub use writer::{Ended, Queue, run_writer, run_writer_for};
+pub use writer::{Ended, JobWriter, Queue, run_writer, run_writer_for};

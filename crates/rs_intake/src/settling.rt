@@ -1,6 +1,6 @@
 //! What the lines and the writer know together, once both have ended.
 
-ghost use Rattle.std.specs.Prelude.{◌≡◌, ◌^◌, ◌<◌, ◌≤◌, List, MatchBool, MatchOption, IfOk, IfErr, length};
+ghost use Rattle.std.specs.Prelude.{◌≡◌, ◌^◌, ◌<◌, ◌≤◌, List, true, MatchBool, MatchOption, IfOk, IfErr, length};
 ghost use Rattle.rs_queue.specs.declared.job.Job.{Job};
 ghost use Rattle.rs_intake.specs.Settling.{ends_at, EachOnce, sent_in_all, AreTaken, AreTakenInOrder, BalancesWith};
 
@@ -10,15 +10,34 @@ use crate::writer::Ended;
 use rs_line::{LineEnd, LineName};
 use std::sync::Wait;
 
-fn count_at<N: LineName>(ends: &Vec<LineEnd<N>>, place: u8) -> usize
+fn count_at<N: LineName>(ends: &Vec<LineEnd<N>>, place: u16) -> usize
     ensures { result ≡ ends_at place ends.now.items }
 {
     ends.iter().filter(|end| end.place() == place).count()
 }
 
-fn is_each_once<N: LineName>(ends: &Vec<LineEnd<N>>, places: u8) -> bool
+/// Whether they are those of the places from 1 to this one, in their order.
+fn are_in_order<N: LineName>(ends: &Vec<LineEnd<N>>, places: u16) -> bool
+    ensures { result ≡ true → EachOnce places ends.now.items }
+{
+    let mut last = 0u16;
+    for end in ends.iter() {
+        let place = end.place();
+        if place - 1 != last {
+            return false;
+        }
+        last = place;
+    }
+    last == places
+}
+
+fn is_each_once<N: LineName>(ends: &Vec<LineEnd<N>>, places: u16) -> bool
     ensures { MatchBool result (EachOnce places ends.now.items) (¬ EachOnce places ends.now.items) }
 {
+    // They mostly are, and are counted at each place otherwise, which takes the square of their number.
+    if are_in_order(ends, places) {
+        return true;
+    }
     for before in 0..places {
         if count_at(ends, before + 1) != 1 {
             return false;
@@ -39,7 +58,7 @@ fn total<N: LineName>(ends: &Vec<LineEnd<N>>) -> Option<u64>
 }
 
 /// How many entries were sent, if each place has one end and these sent as many as were taken.
-fn all_sent<N: LineName>(ends: &Vec<LineEnd<N>>, places: u8, taken: u64) -> Option<u64>
+fn all_sent<N: LineName>(ends: &Vec<LineEnd<N>>, places: u16, taken: u64) -> Option<u64>
     ensures { MatchOption result (¬ (EachOnce places ends.now.items × (sent_in_all ends.now.items ≡ taken)))
         (λ n. (n ≡ taken) × (n ≡ sent_in_all ends.now.items) × EachOnce places ends.now.items) }
 {

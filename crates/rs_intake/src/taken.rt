@@ -20,7 +20,7 @@ use std::sync::Wait;
 /// What the writer took. Contracts see the entries that were asked for, in order, the places of the Ends, and what ended lines sent.
 #[derive(Drop)]
 pub struct Taken<N: LineName> {
-    places: u8,
+    places: u16,
     pass: Pass<Job, PassView>,
     of: PhantomData<N>,
 }
@@ -38,7 +38,7 @@ impl<N: LineName> Model for Taken<N> {
 }
 
 impl<N: LineName> Taken<N> {
-    pub(crate) fn new(places: u8, pass: Pass<Job, PassView>) -> Taken<N>
+    pub(crate) fn new(places: u16, pass: Pass<Job, PassView>) -> Taken<N>
         requires { IsTaker N.queue N.places pass × (places ≡ N.places) }
         ensures { (result.entries ≡ (known_by pass).entries) × (result.ends ≡ (known_by pass).ends)
             × (result.whole ≡ (known_by pass).known) }
@@ -50,7 +50,7 @@ impl<N: LineName> Taken<N> {
         }
     }
 
-    pub(crate) fn places(&self) -> u8
+    pub(crate) fn places(&self) -> u16
         ensures { (result ≡ N.places) × (0 < result) }
     {
         self.places

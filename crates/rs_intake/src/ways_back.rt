@@ -1,6 +1,6 @@
 //! The ways back to all lines: the writer puts a job, and sends the replies to its line.
 
-ghost use Rattle.std.specs.Prelude.{◌≡◌, ◌+◌, ◌-◌, ◌<◌, ◌≤◌, ◌||◌, ◌++◌, [], List, true, false, length, vec_capacity};
+ghost use Rattle.std.specs.Prelude.{◌≡◌, ◌+◌, ◌-◌, ◌<◌, ◌≤◌, ◌||◌, ◌∷◌, ◌++◌, [], List, true, false, length, vec_capacity};
 ghost use Rattle.rs_message.specs.Messages.{is_sweep};
 ghost use Rattle.rs_message.specs.declared.entry.Entry.{Entry};
 ghost use Rattle.rs_store.specs.History.{SerialsRise, extended};
@@ -11,11 +11,12 @@ ghost use Rattle.rs_line.specs.Done.{AreReplied, IsDone, IsOutcome, IsPut, Reply
 ghost use Rattle.rs_line.specs.Sending.{AreSentNext, AreSentTo, AreToPut, ArePut};
 ghost use Rattle.rs_line.specs.Sweeps.{IsKeptFrom};
 ghost use Rattle.rs_queue.specs.declared.job.TheConstants.{MAX_CHANGES};
-ghost use Rattle.rs_line.specs.declared.reply.TheConstants.{FEW_REPLIES};
 
-use rs_line::{FullnessWriter, LineName, ReplySender, WayEnd, WriterReplies, WriterReply};
+use rs_line::{
+    FullnessWriter, LineName, MessageSize, ReplySender, WayEnd, WriterReplies, WriterReply,
+};
 use rs_message::Entry;
-use rs_queue::Changes;
+use rs_queue::{Changes, Entries};
 use rs_version::{PutFault, VersionWriter};
 use std::alloc::Global;
 use std::collections::VecDeque;
@@ -107,9 +108,9 @@ fn next_replies<N: LineName, R: Wait + Drop>(
     writer: &mut VersionWriter<N, R>,
     rest: &mut VecDeque<Entry>,
     has_held: &mut bool,
-    at_once: usize,
+    at_once: MessageSize,
 ) -> (WriterReplies<N>, u64)
-    requires some { (FEW_REPLIES ≤ at_once) × (0 < length rest.old.items) }
+    requires some { 0 < length rest.old.items }
     requires left { AreToPut N.limit (kept_of writer.old) rest.old.items }
     ensures put { ArePut N.limit writer.old has_held.old rest.old.items result.0 result.1 has_held.new rest.new.items writer.new }
     ensures left { AreToPut N.limit (kept_of writer.new) rest.new.items }
@@ -117,7 +118,7 @@ fn next_replies<N: LineName, R: Wait + Drop>(
     ensures some { 0 < length result.0 }
     ensures refused { result.1 + length rest.new.items ≤ length rest.old.items }
 {
-    let count = rest.len().min(at_once);
+    let count = rest.len().min(at_once.get());
     let Ok(reserved) = Vec::with_capacity(alloc, count) else {
         let changes = mem::replace(rest, VecDeque::new(alloc));
         let refused = changes.len() as u64;
@@ -136,9 +137,8 @@ fn put_and_send<N: LineName, R: Wait + Drop, W: Wait>(
     fullness: &mut FullnessWriter,
     writer: &mut VersionWriter<N, R>,
     changes: VecDeque<Entry>,
-    at_once: usize,
+    at_once: MessageSize,
 ) -> u64
-    requires many { FEW_REPLIES ≤ at_once }
     requires few { length changes.items ≤ MAX_CHANGES }
     requires left { AreToPut N.limit (kept_of writer.old) changes.items }
     ensures { (replies : List ReplyValue) × AreReplied N.limit writer.old changes.items replies result writer.new
@@ -153,6 +153,29 @@ fn put_and_send<N: LineName, R: Wait + Drop, W: Wait>(
         replies.show(fullness);
         to.send(rt, replies);
     }
+    refused
+}
+
+/// Puts a change that is a job of its own, and sends the reply, for which it takes no memory. The result is 1 if the change is refused,
+/// else 0.
+fn put_alone<N: LineName, R: Wait + Drop, W: Wait>(
+    rt: &W,
+    to: &mut ReplySender<N>,
+    fullness: &mut FullnessWriter,
+    writer: &mut VersionWriter<N, R>,
+    entry: Entry,
+) -> u64
+    requires left { AreToPut N.limit (kept_of writer.old) (entry ∷ []) }
+    ensures { (replies : List ReplyValue) × AreReplied N.limit writer.old (entry ∷ []) replies result writer.new
+        × AreSentNext to.old replies to.new }
+{
+    // For the proof: this call says that the serial is not 0.
+    let _serial = entry.origin.serial();
+    let reply = reply_to(writer, entry);
+    let refused = reply.refused_count();
+    let replies = WriterReplies::one(reply);
+    replies.show(fullness);
+    to.send(rt, replies);
     refused
 }
 
@@ -186,9 +209,9 @@ impl<N: LineName> WaysBack<N> {
         }
     }
 
-    /// Puts the changes of a job, one after the other, and sends the replies to their line, `at_once` in each message, and nothing to any
-    /// other. If a send of replies fails, as it does if the line is gone, no more are sent to this line. The result is how many changes
-    /// are refused.
+    /// Puts the changes of a job, one after the other, and sends the replies to their line, `at_once` in each message, or more if its way back
+    /// has space for fewer messages, and nothing to any other. If a send of replies fails, as it does if the line is gone, no more are sent
+    /// to this line. The result is how many changes are refused.
     pub(crate) fn put_job<R: Wait + Drop, W: Wait>(
         &mut self,
         rt: &W,
@@ -196,18 +219,25 @@ impl<N: LineName> WaysBack<N> {
         changes: Changes,
         at_once: usize,
     ) -> u64
-        requires many { FEW_REPLIES ≤ at_once }
         requires place { place_of_all changes ≤ length self.old.senders.items }
         requires rises { (before : List Entry) × IsKeptFrom N.limit before (kept_of writer.old) × SerialsRise (before ++ changes) }
         ensures { (replies : List ReplyValue) × AreReplied N.limit writer.old changes replies result writer.new
             × AreSentTo (place_of_all changes) self.old.senders.items replies self.new.senders.items }
     {
         let index = changes.place() as usize - 1;
-        let entries = VecDeque::from_vec(changes.into_entries());
+        let to = &mut self.senders[index];
+        let entries = match changes.into_entries() {
+            Entries::One(entry) => {
+                return put_alone(rt, to, &mut self.fullness, writer, entry);
+            }
+            Entries::Many(entries) => entries,
+        };
+        let entries = VecDeque::from_vec(entries);
+        let at_once = to.message_size(at_once);
         put_and_send(
             rt,
             self.alloc,
-            &mut self.senders[index],
+            to,
             &mut self.fullness,
             writer,
             entries,

@@ -1,14 +1,16 @@
 //! The writer's loop over the queue.
 
-ghost use Rattle.std.specs.Prelude.{◌≡◌, ◌+◌, ◌<◌, ◌≤◌, ◌^◌, ◌⊎◌, [], length, replicate, MatchBool};
+ghost use Rattle.std.specs.Prelude.{◌≡◌, ◌+◌, ◌<◌, ◌≤◌, ◌^◌, ◌⊎◌, [], length, replicate, IfSome, MatchBool, Some};
 ghost use Rattle.std.specs.Option.{option_map};
 ghost use Rattle.crossbeam_channel.specs.Ends.{receives_on};
 ghost use Rattle.rs_version.specs.Writer.{kept_of};
 ghost use Rattle.rs_line.specs.Done.{IsWritten, untold};
 ghost use Rattle.rs_intake.specs.Causes.{IsCause};
+ghost use Rattle.rs_intake.specs.declared.cause.Cause.TheVariants.{MostTaken};
 ghost use Rattle.rs_line.specs.Names.{IsQueue};
 ghost use Rattle.rs_queue.specs.Parts.{IsPart};
 ghost use Rattle.rs_intake.specs.Settling.{AreOfPlaces};
+ghost use Rattle.rs_intake.specs.Writers.{IsStepBefore, IsUnderWay};
 ghost use Rattle.rs_line.specs.Sweeps.{AreForEntries, without_sweeps};
 ghost use Rattle.rs_queue.specs.declared.job.TheConstants.{MAX_CHANGES};
 ghost use Rattle.rs_line.specs.declared.reply.TheConstants.{FEW_REPLIES};
@@ -20,6 +22,7 @@ use rs_line::{FEW_REPLIES, LineName, WayEnd};
 use rs_message::Origin;
 use rs_queue::{Job, JobReceiver, MAX_CHANGES, Patience, Polls};
 use rs_version::VersionWriter;
+use std::marker::Model;
 use std::sync::Wait;
 
 /// The writer's end of the queue, from which nothing was taken.
@@ -103,7 +106,7 @@ impl<N: LineName, R: Wait + Drop> Ended<N, R> {
 
 /// Whether no further job may be taken: at least so many entries were, or one more job could have more than can be counted.
 fn has_most(taken: u64, most: u64) -> bool
-    ensures { MatchBool result ((most ≤ taken) ⊎ (2 ^ 64 ≤ taken + MAX_CHANGES)) (taken + MAX_CHANGES < 2 ^ 64) }
+    ensures { MatchBool result ((most ≤ taken) ⊎ (2 ^ 64 ≤ taken + MAX_CHANGES)) ((taken < most) × (taken + MAX_CHANGES < 2 ^ 64)) }
 {
     taken >= most || taken > u64::MAX - MAX_CHANGES as u64
 }
@@ -120,14 +123,140 @@ fn replies_at_once(patience: &Patience) -> usize
     }
 }
 
+/// A writer at its queue. It takes one job at a time. Contracts see what it published and holds, what it took, what it sent by the ways back,
+/// and how many entries it took and refused.
+///
+/// At every moment what it keeps came to be by the outcomes of just what it took, and the lines were told these outcomes (`IsUnderWay`).
+#[derive(Drop)]
+pub struct JobWriter<N: LineName, R: Wait + Drop> {
+    writer: VersionWriter<N, R>,
+    receiver: JobReceiver,
+    received: Taken<N>,
+    ways: WaysBack<N>,
+    patience: Patience,
+    taken: u64,
+    refused: u64,
+    // How many places have not ended.
+    left: u16,
+}
+
+impl<N: LineName, R: Wait + Drop> Model for JobWriter<N, R> {
+    ghost use Rattle.std.specs.Prelude.{◌≡◌, ◌+◌, length};
+    ghost use Rattle.crossbeam_channel.specs.Ends.{receives_on};
+    ghost use Rattle.rs_line.specs.Names.{IsQueue};
+    ghost use Rattle.rs_intake.specs.Writers.{IsUnderWay, WriterValue};
+
+    ghost Value = { WriterValue };
+
+    ghost view = { λ w. record { writer = w.writer; received = w.received; ways = w.ways.senders.items; taken = w.taken; refused = w.refused } };
+
+    ghost invariant = { λ w. IsQueue N.queue (receives_on w.receiver)
+        × IsUnderWay N.limit N.places record { writer = w.writer; received = w.received; ways = w.ways.senders.items; taken = w.taken; refused = w.refused }
+        × (w.left + length w.received.ends ≡ N.places) };
+}
+
+impl<N: LineName, R: Wait + Drop> JobWriter<N, R> {
+    /// A writer that kept nothing, at a queue from which nothing was taken.
+    pub fn new(queue: Queue<N>, writer: VersionWriter<N, R>) -> JobWriter<N, R>
+        requires empty { kept_of writer ≡ [] }
+        ensures writer { result.writer ≡ writer }
+        ensures received { (result.received.entries ≡ []) × (result.received.ends ≡ []) }
+        ensures ways { result.ways ≡ replicate N.places untold }
+        ensures counts { (result.taken ≡ 0) × (result.refused ≡ 0) }
+        ensures under_way { IsUnderWay N.limit N.places result }
+    {
+        let Queue {
+            receiver,
+            received,
+            ways,
+            patience,
+        } = queue;
+        let left = received.places();
+        JobWriter {
+            writer,
+            receiver,
+            received,
+            ways,
+            patience,
+            taken: 0,
+            refused: 0,
+            left,
+        }
+    }
+
+    /// How many entries were taken.
+    pub fn taken(&self) -> u64
+        ensures taken { result ≡ self.now.taken }
+        ensures under_way { IsUnderWay N.limit N.places self.now }
+    {
+        self.taken
+    }
+
+    /// Waits for the oldest job, and takes it. It puts its changes, one after the other, and sends the job's line a reply to each. Behind a
+    /// change that is held the others of the job are refused.
+    ///
+    /// The result is why no step can follow, if none can: each place has ended, with this job; or no job was taken, since at least `most`
+    /// entries were taken before, or so many that one more job could have more than can be counted, or since the receive failed.
+    pub fn step<W: Wait>(&mut self, rt: &W, most: u64) -> Option<Cause>
+        ensures step { IsStepBefore N.limit N.places result self.old self.new }
+        ensures cause { IfSome result (λ cause. IsCause N.places most self.new.received cause) }
+        ensures most { most ≤ self.old.taken → result ≡ Some MostTaken }
+        ensures under_way { IsUnderWay N.limit N.places self.new }
+    {
+        if has_most(self.taken, most) {
+            return Some(Cause::MostTaken);
+        }
+        match self.received.next(rt, &self.receiver, &mut self.patience) {
+            Ok(Job::Put(changes)) => {
+                self.taken += changes.len() as u64;
+                let at_once = replies_at_once(&self.patience);
+                let count = self.ways.put_job(rt, &mut self.writer, changes, at_once);
+                self.refused += count;
+                None
+            }
+            Ok(Job::End(_)) => {
+                self.left -= 1;
+                if self.left == 0 {
+                    Some(Cause::AllEnded)
+                } else {
+                    None
+                }
+            }
+            Err(gone) => Some(Cause::QueueGone(gone)),
+        }
+    }
+
+    /// Ends the ways back. Before that it tries once more to publish a held entry, of which no clause speaks.
+    pub fn end(self, cause: Cause) -> Ended<N, R>
+        ensures received { (result.received ≡ self.received) × (result.cause ≡ cause) × (result.ways.items ≡ self.ways) }
+        ensures counts { (result.taken ≡ self.taken) × (result.refused ≡ self.refused) }
+        ensures kept { kept_of result.writer ≡ kept_of self.writer }
+        ensures held { result.held ≡ option_map (λ e. e.origin) result.writer.held }
+        ensures under_way { IsUnderWay N.limit N.places self }
+    {
+        let JobWriter {
+            mut writer,
+            receiver: _receiver,
+            received,
+            ways,
+            patience: _,
+            taken,
+            refused,
+            left: _,
+        } = self;
+        drop(writer.retry());
+        Ended::new(writer, taken, refused, received, cause, ways.end())
+    }
+}
+
 /// Puts the changes of each job that it takes, one after the other, and sends the job's line a reply to each. Behind a change
 /// that is held the others of its job are refused. It ends when ([`Cause`])
 ///
 /// - each place has ended,
-/// - all lines and their ends are gone, or
+/// - the receive of a job fails, as it does once all lines and their ends are gone, or
 /// - it has taken so many entries that one more job could have more than can be counted.
 ///
-/// Then it tries once more to publish a held entry.
+/// Then it tries once more to publish a held entry, of which no clause speaks.
 ///
 /// The contract says what became of each entry that was asked for (`done`). It makes no difference which of them came in one job. There
 /// is one outcome for each entry that was taken, in their order. After a receipt, or if the entry is held, the kept list is
@@ -171,41 +300,11 @@ pub fn run_writer_for<N: LineName, R: Wait + Drop, W: Wait>(
     ensures done { IsWritten N.limit N.places result.received.entries (kept_of result.writer) result.ways.items }
     ensures cause { IsCause N.places most result.received result.cause }
 {
-    let Queue {
-        receiver,
-        mut received,
-        mut ways,
-        mut patience,
-    } = queue;
-    let mut writer = writer;
-    let mut taken = 0u64;
-    let mut refused = 0u64;
-    let mut open = received.places();
-    let mut cause = Cause::MostTaken;
+    let mut writer = JobWriter::new(queue, writer);
     for _ in rt.forever() {
-        if has_most(taken, most) {
-            break;
-        }
-        match received.next(rt, &receiver, &mut patience) {
-            Ok(Job::Put(changes)) => {
-                taken += changes.len() as u64;
-                let at_once = replies_at_once(&patience);
-                let count = ways.put_job(rt, &mut writer, changes, at_once);
-                refused += count;
-            }
-            Ok(Job::End(_)) => {
-                open -= 1;
-                if open == 0 {
-                    cause = Cause::AllEnded;
-                    break;
-                }
-            }
-            Err(gone) => {
-                cause = Cause::QueueGone(gone);
-                break;
-            }
+        if let Some(cause) = writer.step(rt, most) {
+            return writer.end(cause);
         }
     }
-    drop(writer.retry());
-    Ended::new(writer, taken, refused, received, cause, ways.end())
+    unreachable!()
 }

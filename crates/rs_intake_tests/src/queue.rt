@@ -2,6 +2,7 @@
 
 mod fullness;
 mod log;
+mod many;
 mod places;
 mod polls;
 mod replies;
@@ -35,7 +36,7 @@ fn setup(alloc: Global, limit: u32, script: Script, writing: Writing) -> Setup {
 }
 
 /// Whether these were the outcomes at this place, by their numbers and codes, and its last serial was this.
-fn are_outcomes(log: &Log, place: u8, serial: u64, wanted: &[(u64, u8)]) -> bool {
+fn are_outcomes(log: &Log, place: u16, serial: u64, wanted: &[(u64, u8)]) -> bool {
     if log.outcomes.len() != wanted.len() {
         return false;
     }
@@ -267,7 +268,10 @@ fn reads_largest(alloc: Global, ran: &Ran) -> Option<bool> {
     let [found] = log.readings.first()?.found.as_slice() else {
         return None;
     };
-    if outcome.number != 1 || entry.origin.serial() != 1 || entry.origin.place() != MAX_PLACES {
+    if outcome.number != 1
+        || entry.origin.serial() != 1
+        || entry.origin.place() != u16::from(MAX_PLACES)
+    {
         return None;
     }
     Some(is_largest(alloc, found))

@@ -1,5 +1,5 @@
 -- What is ahead of a line: its serials, and what holds of the line's parts.
-use Rattle.std.proofs.Common.{◌≡◌, ℕ, suc, ◌+◌, ◌-◌, ◌<◌, ◌^◌, inl, All, false, List, [], ◌∷◌, ◌++◌, length, take, get_or, Option, Some, None, MatchOption, refl, sym, ap, subst, ◌∙◌, append_assoc, length-append, arith}
+use Rattle.std.proofs.Common.{◌≡◌, ℕ, suc, ◌+◌, ◌-◌, ◌<◌, ◌^◌, inl, All, false, List, [], ◌∷◌, ◌++◌, length, take, drop, Option, Some, None, MatchOption, refl, sym, ap, subst, ◌∙◌, append_assoc, length-append, arith}
 use Rattle.std.specs.List.{AllByRecursion}
 use Rattle.std.proofs.lemmas.List.{append-nil}
 use Rattle.rs_message.specs.Messages.{is_sweep}
@@ -117,20 +117,10 @@ seat_handed_on place serial serial' taken ahead ahead' next none l =
     let P : List Entry → Type 0 = λ es. IsSeatLine place serial' taken es in
     subst P (sym none) (record { end = end_is taken taken [] (sym (append-nil taken)); next = tt; fits = omega (arith, fits, next); last = omega (arith, low, next); count = omega (arith, count, next) })
 
--- the first
-pub first_split : (es : List Entry) (e : Entry) → 0 < length es → e ≡ get_or es 0 e → (rest : List Entry) × (es ≡ e ∷ rest)
-first_split [] e some is = absurd (omega (arith, some))
-first_split (f ∷ es) e some is = (es, ap (λ (x : Entry). x ∷ es) (sym is))
-
--- the serial of the last
-pub next_last : (place serial : ℕ) (es : List Entry) (d : Entry) → AreNext place serial es → 0 < length es → (get_or es (length es - 1) d).origin.serial ≡ serial + length es
-next_last place serial [] d next some = absurd (omega (arith, some))
-next_last place serial (e ∷ []) d next some = ap (λ o. o.serial) next.0
-next_last place serial (e ∷ f ∷ es) d next some =
-    let k : length (e ∷ f ∷ es) - 1 ≡ suc (length (f ∷ es) - 1) = omega arith in
-    let here : (get_or (e ∷ f ∷ es) (length (e ∷ f ∷ es) - 1) d).origin.serial ≡ (get_or (f ∷ es) (length (f ∷ es) - 1) d).origin.serial = ap (λ n. (get_or (e ∷ f ∷ es) n d).origin.serial) k in
-    let rest = next_last place (serial + 1) (f ∷ es) d next.1 (omega arith) in
-    omega (arith, rest, here)
+-- what is left once the first was taken
+pub popped : (old new rest : List Entry) (e : Entry) (taken : Option Entry) → old ≡ e ∷ rest → MatchOption taken ((old ≡ []) × (new ≡ [])) (λ x. old ≡ x ∷ new) → new ≡ rest
+popped old new rest e (Some x) first is = ap (λ (l : List Entry). drop 1 l) (sym is ∙ first)
+popped old new rest e None first is = absurd (cc (first, is.0))
 
 -- ---- what is ahead once an operation was submitted
 

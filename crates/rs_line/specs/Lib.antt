@@ -6,3 +6,5 @@ pub mod Refusals
 pub mod ReplyRule
 pub mod Sending
 pub mod Sweeps
+pub mod Messages
+pub mod Waiting

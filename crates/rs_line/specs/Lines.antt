@@ -1,17 +1,18 @@
 -- What a line has sent.
-use Rattle.std.specs.Prelude.{ℕ, ◌≡◌, ◌≢◌, ◌<◌, ◌≤◌, ◌+◌, ◌-◌, ◌^◌, min, ◌⊎◌, ◌∷◌, ◌++◌, suc, zero, true, false, List, [], length}
+use Rattle.std.specs.Prelude.{ℕ, ◌≡◌, ◌≢◌, ◌<◌, ◌≤◌, ◌+◌, ◌-◌, ◌^◌, min, ◌⊎◌, ◌∷◌, ◌++◌, suc, zero, true, false, List, [], length, Option, None}
 use Rattle.atomic_table.specs.declared.badge.Badge.{Badge}
 use Rattle.crossbeam_channel.specs.declared.flavors.array.Key.{Key}
 use Rattle.crossbeam_channel.specs.declared.flavors.array.Doing.{Doing}
 use Rattle.crossbeam_channel.specs.declared.flavors.array.Rows.{Rows}
 use Rattle.crossbeam_channel.specs.Claims.{Pass, view}
-use Rattle.rs_message.specs.declared.entry.TheConstants.{MAX_PLACES}
+use Rattle.rs_message.specs.declared.entry.TheConstants.{MAX_LINES}
 use Rattle.rs_message.specs.declared.entry.Entry.{Entry}
 use Rattle.rs_message.specs.declared.entry.Operation.{Operation}
 use Rattle.rs_store.specs.History.{last_serial}
 use Rattle.rs_queue.specs.declared.rule.PassView.{PassView}
 use Rattle.rs_queue.specs.declared.rule.SentFrom.{SentFrom}
 use Rattle.rs_queue.specs.declared.job.Job.{Job}
+use Rattle.rs_queue.specs.declared.waiting.Gone.{Gone}
 use Rattle.rs_line.specs.Done.{ReplyValue}
 use Rattle.rs_line.specs.Names.{QueueName, IsQueue, IsIn}
 use Rattle.rs_queue.specs.Changes.{AreNext}
@@ -22,8 +23,8 @@ abbrev pub next_serial : ℕ → ℕ
 next_serial serial = min (serial + 1) (2 ^ 64 - 1)
 
 -- A place, the last serial that was submitted there, what was sent from it and submitted; the replies that were taken, read or dropped,
--- and those that came and were not taken yet; and what was sent ahead, and is not submitted yet. The queue took what was sent and then what
--- is ahead
+-- and those that came and were not taken yet; what was sent ahead, and is not submitted yet; and the last submit's receive that failed, if
+-- one did. The queue took what was sent and then what is ahead
 pub record Line : Type 0 where
   pub place : ℕ
   pub serial : ℕ
@@ -31,6 +32,7 @@ pub record Line : Type 0 where
   pub heard : List ReplyValue
   pub came : List ReplyValue
   pub ahead : List Entry
+  pub gone : Option Gone
 
 -- what holds of a line's parts: its place, its last serial, what the queue took from it, and what is ahead
 pub record IsSeatLine (place serial : ℕ) (taken ahead : List Entry) : Type 0 where
@@ -66,12 +68,16 @@ pub record IsLine {Q M L A : Type 0} (name : QueueName) (places : ℕ) (c : Rows
   pub number : sent ≡ length (view pass).entries
   pub from : 0 < place
   pub to : place ≤ places
-  pub few : places ≤ MAX_PLACES
+  pub few : places ≤ MAX_LINES
 
--- nothing was sent from these places
+-- nothing was sent from this place
+abbrev pub new_line : ℕ → Line
+new_line place = record { place = place; serial = 0; sent = []; heard = []; came = []; ahead = []; gone = None }
+
+-- the same of each of so many places
 abbrev pub new_lines : ℕ → List Line
 new_lines zero = []
-new_lines (suc n) = new_lines n ++ record { place = suc n; serial = 0; sent = []; heard = []; came = []; ahead = [] } ∷ []
+new_lines (suc n) = new_lines n ++ new_line (suc n) ∷ []
 
 -- the same, or with this entry behind the others
 abbrev pub AddsAtMost : List Entry → Entry → List Entry → Type 0
@@ -90,4 +96,4 @@ pub record IsTaker (name : QueueName) (places : ℕ) (pass : Pass Job PassView) 
   pub takes : (view pass).takes ≡ true
   pub made : (view pass).made ≡ places
   pub some_places : 0 < places
-  pub few : places ≤ MAX_PLACES
+  pub few : places ≤ MAX_LINES

@@ -1,10 +1,11 @@
 -- Why a place gets no receipt.
-use Rattle.std.specs.Prelude.{ℕ, ◌≡◌, ◌≢◌, ◌+◌, ◌^◌, ◌⊎◌, ◌∷◌, ◌++◌, [], Ok, Err}
+use Rattle.std.specs.Prelude.{ℕ, ◌≡◌, ◌≢◌, ◌+◌, ◌^◌, ◌⊎◌, ◌∷◌, ◌++◌, [], Some, Ok, Err}
 use Rattle.rs_message.specs.declared.entry.Entry.{Entry}
 use Rattle.rs_message.specs.declared.fault.SubmitFault.{SubmitFault}
 use Rattle.rs_message.specs.declared.fault.SubmitFault.TheVariants as submit
 use Rattle.rs_version.specs.declared.fault.PutFault.{PutFault}
 use Rattle.rs_version.specs.declared.fault.PutFault.TheVariants as put
+use Rattle.rs_queue.specs.declared.waiting.Gone.{Gone}
 use Rattle.rs_line.specs.Done.{Outcome, ReplyValue}
 use Rattle.rs_line.specs.Lines.{IsOther, Line}
 
@@ -39,11 +40,11 @@ abbrev pub IsMistaken : Line → Line → Entry → SubmitFault → Type 0
 IsMistaken before after e fault = IsOther before.ahead e.operation × (after.serial ≡ before.serial) × (after.sent ≡ before.sent)
     × (after.heard ≡ before.heard) × (fault ≡ submit.Strange)
 
--- Why there is no receipt: nothing was sent; or the entry was sent, and no reply came; or one came that is no receipt for it; or another
--- change than this one was sent ahead
+-- Why there is no receipt: nothing was sent; or the entry was sent, and no reply came, since the receive failed; or one came that is no
+-- receipt for it; or another change than this one was sent ahead
 abbrev pub IsRefused : Line → Line → Entry → SubmitFault → Type 0
 IsRefused before after e fault =
     ((after.sent ≡ before.sent) × (after.heard ≡ before.heard) × IsUnsent before.serial fault)
-    ⊎ (IsSent before after e × (after.heard ≡ before.heard) × (fault ≡ submit.Open))
+    ⊎ (IsSent before after e × (after.heard ≡ before.heard) × (fault ≡ submit.Open) × (gone : Gone) × (after.gone ≡ Some gone))
     ⊎ (IsSent before after e × (reply : ReplyValue) × (after.heard ≡ before.heard ++ reply ∷ []) × IsFaultOfReply e reply fault)
     ⊎ IsMistaken before after e fault

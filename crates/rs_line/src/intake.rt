@@ -73,7 +73,7 @@ impl<N: LineName> Intake<N> {
 
     /// Hands the operation, which is no Sweep, to the writer under the line's next serial, and waits for the receipt. The serial is
     /// used whatever is answered, unless there is no further one. The writer may make a Sweep first, so that there is space. The
-    /// contract also says which reply came (`heard`), if one came.
+    /// contract also says which reply came (`heard`), if one came; and if none did, the line keeps the [`Gone`](rs_queue::Gone) of its receive.
     ///
     /// If the operation is the first that was sent ahead ([`expect`](SeatLine::expect)), nothing is sent, and the reply is the one to its
     /// entry. If something else is, nothing is done, and no serial is used.
@@ -109,8 +109,8 @@ impl<N: LineName> Intake<N> {
     {
         let entry = line.send(rt, operation)?;
         match line.receive(rt) {
-            Ok(reply) => read_reply(reply, &entry),
-            Err(_) => Err(SubmitFault::Open),
+            Some(reply) => read_reply(reply, &entry),
+            None => Err(SubmitFault::Open),
         }
     }
 }

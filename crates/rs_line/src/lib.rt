@@ -8,6 +8,7 @@
 //! Not promised: that an announcement, a submit, or a line that is handed on or closed returns, since these wait; that memory is there.
 #![tactic(auto)]
 
+mod announced;
 mod fullness;
 mod intake;
 mod line;
@@ -19,5 +20,6 @@ pub use intake::{Intake, read_reply};
 pub use line::{LineEnd, LineSender, SeatLine};
 pub use name::LineName;
 pub use reply::{
-    FEW_REPLIES, ReplyReceiver, ReplySender, WayEnd, WriterReplies, WriterReply, way_back,
+    FEW_REPLIES, MessageSize, ReplyReceiver, ReplySender, WayEnd, WriterReplies, WriterReply,
+    way_back,
 };

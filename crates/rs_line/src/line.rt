@@ -1,12 +1,12 @@
 //! The lines of the places.
 
-ghost use Rattle.std.specs.Prelude.{◌≡◌, ◌≢◌, ◌+◌, ◌-◌, ◌<◌, ◌≤◌, ◌^◌, ◌∷◌, ◌++◌, ◌⊎◌, [], List, All, length, true, false, IfErr, IfOk, IfSome, Decides, MatchBool, MatchOption, MatchResult, Err};
+ghost use Rattle.std.specs.Prelude.{◌≡◌, ◌≢◌, ◌+◌, ◌-◌, ◌<◌, ◌≤◌, ◌^◌, ◌∷◌, ◌++◌, ◌⊎◌, [], List, All, length, true, false, IfErr, IfOk, IfSome, Decides, MatchBool, MatchOption, MatchResult, Err, None, Some};
 ghost use Rattle.crossbeam_channel.specs.Claims.{view as known_by};
 ghost use Rattle.crossbeam_channel.specs.Ends.{sends_on};
 ghost use Rattle.rs_message.specs.Messages.{is_sweep};
 ghost use Rattle.rs_message.specs.declared.entry.Entry.{Entry};
 ghost use Rattle.rs_message.specs.declared.entry.Operation.{Operation};
-ghost use Rattle.rs_message.specs.declared.entry.TheConstants.{MAX_PLACES};
+ghost use Rattle.rs_message.specs.declared.entry.TheConstants.{MAX_LINES};
 ghost use Rattle.rs_message.specs.declared.fault.SubmitFault.TheVariants.{Strange};
 ghost use Rattle.rs_store.specs.History.{last_serial};
 ghost use Rattle.rs_queue.specs.Changes.{AreNext, AreOf, AreOfLine, entry_at, numbered};
@@ -17,22 +17,23 @@ ghost use Rattle.rs_queue.specs.Ends.{IsClosed};
 ghost use Rattle.rs_queue.specs.QueueRule.{AreAbove};
 ghost use Rattle.rs_line.specs.Refusals.{IsUnsent};
 ghost use Rattle.rs_queue.specs.declared.job.TheConstants.{MAX_CHANGES};
+ghost use Rattle.rs_queue.specs.declared.waiting.Gone.{Gone};
 
+use crate::announced::{Ahead, announce};
 use crate::name::LineName;
 use crate::reply::{ReplyReceiver, WriterReply};
 use crossbeam_channel::Pass;
 use rs_message::{Entry, Operation, Origin, SubmitFault, is_same};
 use rs_queue::steps::send;
-use rs_queue::{Changes, Gone, Job, JobSender, MAX_CHANGES, PassView, prepare, prepare_one};
+use rs_queue::{Changes, Gone, Job, JobSender, MAX_CHANGES, PassView, prepare_one};
 use std::alloc::Global;
-use std::collections::VecDeque;
 use std::marker::{Model, PhantomData};
 use std::sync::Wait;
 
 /// The sending half of a line that was not closed: its place, and what the queue took from it.
 #[derive(Drop)]
 pub struct LineSender<N: LineName> {
-    place: u8,
+    place: u16,
     sent: u64,
     sender: JobSender,
     pass: Pass<Job, PassView>,
@@ -55,21 +56,21 @@ impl<N: LineName> Model for LineSender<N> {
 }
 
 impl<N: LineName> LineSender<N> {
-    fn place(&self) -> u8
+    fn place(&self) -> u16
         ensures place { result ≡ self.now.place }
         ensures some { 0 < result }
         ensures there { result ≤ N.places }
-        ensures small { result ≤ MAX_PLACES }
+        ensures small { result ≤ MAX_LINES }
     {
         self.place
     }
 
     /// A line that sent nothing, by its sender and its pass.
-    pub fn new(place: u8, sender: JobSender, pass: Pass<Job, PassView>) -> LineSender<N>
+    pub fn new(place: u16, sender: JobSender, pass: Pass<Job, PassView>) -> LineSender<N>
         requires queue { IsQueue N.queue (sends_on sender) × IsIn N.queue pass }
         requires new { ((known_by pass).sends ≡ true) × ((known_by pass).takes ≡ false) × ((known_by pass).from ≡ place)
             × ((known_by pass).entries ≡ []) × ((known_by pass).ends ≡ []) }
-        requires place { (0 < place) × (place ≤ N.places) × (N.places ≤ MAX_PLACES) }
+        requires place { (0 < place) × (place ≤ N.places) × (N.places ≤ MAX_LINES) }
         ensures { (result.place ≡ place) × (result.sent ≡ []) }
     {
         LineSender {
@@ -129,7 +130,7 @@ impl<N: LineName> LineSender<N> {
 /// behind them. If it took none, the send of the End has failed, and the line's end keeps its [`Gone`].
 #[derive(Drop)]
 pub struct LineEnd<N: LineName> {
-    place: u8,
+    place: u16,
     sent: u64,
     gone: Option<Gone>,
     // By it `settle` reads the pass.
@@ -155,11 +156,11 @@ impl<N: LineName> Model for LineEnd<N> {
 
 impl<N: LineName> LineEnd<N> {
     /// The place, 1 to the number of places.
-    pub fn place(&self) -> u8
+    pub fn place(&self) -> u16
         ensures place { result ≡ self.now.place }
         ensures some { 0 < result }
         ensures there { result ≤ N.places }
-        ensures small { result ≤ MAX_PLACES }
+        ensures small { result ≤ MAX_LINES }
     {
         self.place
     }
@@ -190,7 +191,7 @@ impl<N: LineName> LineEnd<N> {
     }
 }
 
-/// A place's way to the writer and back, with the last serial that was submitted. It is not shared: each place has its own.
+/// A client's way to the writer and back, with the last serial that was submitted. Nobody else uses it.
 ///
 /// Changes that are announced ([`expect`](SeatLine::expect)) go to the writer together, in one job. They are ahead then: they were sent,
 /// and are not submitted yet. The queue took what was sent and submitted, and then what is ahead.
@@ -199,7 +200,9 @@ pub struct SeatLine<N: LineName> {
     line: LineSender<N>,
     serial: u64,
     replies: ReplyReceiver<N>,
-    ahead: VecDeque<Entry>,
+    ahead: Ahead,
+    // The last receive of a submit that failed.
+    gone: Option<Gone>,
     alloc: Global,
 }
 
@@ -212,13 +215,14 @@ impl<N: LineName> Model for SeatLine<N> {
     ghost view = { λ l. record {
       place = l.line.place;
       serial = l.serial;
-      sent = before l.line.sent l.ahead.items;
+      sent = before l.line.sent l.ahead;
       heard = l.replies.heard;
       came = l.replies.came;
-      ahead = l.ahead.items;
+      ahead = l.ahead;
+      gone = l.gone;
     } };
 
-    ghost invariant = { λ l. IsSeatLine l.line.place l.serial l.line.sent l.ahead.items };
+    ghost invariant = { λ l. IsSeatLine l.line.place l.serial l.line.sent l.ahead };
 }
 
 impl<N: LineName> SeatLine<N> {
@@ -228,22 +232,24 @@ impl<N: LineName> SeatLine<N> {
         ensures line { (result.place ≡ line.place) × (result.serial ≡ 0) × (result.sent ≡ []) }
         ensures replies { (result.heard ≡ []) × (result.came ≡ []) }
         ensures ahead { result.ahead ≡ [] }
+        ensures gone { result.gone ≡ None }
     {
         SeatLine {
             line,
             serial: 0,
             replies,
-            ahead: VecDeque::new(alloc),
+            ahead: Ahead::empty(),
+            gone: None,
             alloc,
         }
     }
 
     /// The place, 1 to the number of places.
-    pub fn place(&self) -> u8
+    pub fn place(&self) -> u16
         ensures place { result ≡ self.now.place }
         ensures some { 0 < result }
         ensures there { result ≤ N.places }
-        ensures small { result ≤ MAX_PLACES }
+        ensures small { result ≤ MAX_LINES }
     {
         self.line.place()
     }
@@ -255,7 +261,8 @@ impl<N: LineName> SeatLine<N> {
         self.serial
     }
 
-    /// For a line that clients share: from now on it polls less before it sleeps, since their threads want the processors too.
+    /// For a line whose client shares its threads with others: from now on it polls less before it sleeps, since they want the processors
+    /// too.
     pub fn share(&mut self)
         ensures { self.new ≡ self.old }
     {
@@ -271,12 +278,13 @@ impl<N: LineName> SeatLine<N> {
             ⊎ ((self.old.ahead ≡ []) × (self.new.ahead ≡ numbered self.old.place self.old.serial changes.items)) }
         ensures place { (self.new.place ≡ self.old.place) × (self.new.serial ≡ self.old.serial) }
         ensures same { (self.new.sent ≡ self.old.sent) × (self.new.heard ≡ self.old.heard) × (self.new.came ≡ self.old.came) }
+        ensures gone { self.new.gone ≡ self.old.gone }
     {
         if !self.ahead.is_empty() || changes.is_empty() || changes.len() > MAX_CHANGES {
             return;
         }
         let place = self.line.place();
-        let Some((job, ahead)) = prepare(self.alloc, place, self.serial, changes) else {
+        let Some((job, ahead)) = announce(self.alloc, place, self.serial, changes) else {
             return;
         };
         if self.line.send_changes(rt, job) {
@@ -295,10 +303,7 @@ impl<N: LineName> SeatLine<N> {
     fn last_serial(&self) -> u64
         ensures { result ≡ self.now.serial + length self.now.ahead }
     {
-        match self.ahead.back() {
-            Some(last) => last.origin.serial(),
-            None => self.serial,
-        }
+        self.serial + self.ahead.len() as u64
     }
 
     /// For a line that is handed on. What is ahead counts as submitted. It waits for as many replies as there is ahead, and drops them with
@@ -317,10 +322,11 @@ impl<N: LineName> SeatLine<N> {
         ensures fewer { IfErr result (λ _. length self.new.heard < length self.old.heard + length self.old.ahead) }
         ensures came { self.new.came ≡ [] }
         ensures none { self.new.ahead ≡ [] }
+        ensures gone { self.new.gone ≡ self.old.gone }
     {
         let unread = self.ahead.len();
         self.serial = self.last_serial();
-        self.ahead = VecDeque::new(self.alloc);
+        self.ahead = Ahead::empty();
         self.replies.drop_next(rt, unread)
     }
 
@@ -330,7 +336,7 @@ impl<N: LineName> SeatLine<N> {
             (λ is. (first : Entry) × (rest : List Entry) × (self.now.ahead ≡ first ∷ rest)
             × (first.origin ≡ record { place = self.now.place; serial = self.now.serial + 1 }) × Decides is (first ≡ entry.now)) }
     {
-        let first = self.ahead.front()?;
+        let first = self.ahead.first()?;
         Some(is_same(first, entry))
     }
 
@@ -341,8 +347,9 @@ impl<N: LineName> SeatLine<N> {
         ensures sent { self.new.sent ≡ self.old.sent ++ entry.now ∷ [] }
         ensures ahead { self.old.ahead ≡ entry.now ∷ self.new.ahead }
         ensures heard { self.new.heard ≡ self.old.heard }
+        ensures gone { self.new.gone ≡ self.old.gone }
     {
-        drop(self.ahead.pop_front());
+        drop(self.ahead.pop());
         self.serial = entry.origin.serial();
     }
 
@@ -356,6 +363,7 @@ impl<N: LineName> SeatLine<N> {
         ensures sent { MatchResult result (λ e. self.new.sent ≡ self.old.sent ++ e ∷ []) (λ _. self.new.sent ≡ self.old.sent) }
         ensures same { (self.new.heard ≡ self.old.heard) × (self.new.ahead ≡ []) }
         ensures unsent { IfErr result (λ f. IsUnsent self.old.serial f) }
+        ensures gone { self.new.gone ≡ self.old.gone }
     {
         self.serial = entry.origin.serial();
         // For the proof: this call says that the place is not the writer's.
@@ -394,11 +402,12 @@ impl<N: LineName> SeatLine<N> {
         ensures unsent { IfErr result (λ f. IsUnsent self.old.serial f
             ⊎ ((f ≡ Strange) × (self.new.serial ≡ self.old.serial) × IsOther self.old.ahead operation)) }
         ensures ahead { IsAheadAfter self.old.ahead operation self.new.ahead }
+        ensures gone { self.new.gone ≡ self.old.gone }
     {
         let Some(serial) = self.serial.checked_add(1) else {
             return Err(SubmitFault::Full);
         };
-        let Some(origin) = Origin::new(self.line.place(), serial) else {
+        let Some(origin) = Origin::of_line(self.line.place(), serial) else {
             unreachable!()
         };
         let entry = Entry { origin, operation };
@@ -412,13 +421,20 @@ impl<N: LineName> SeatLine<N> {
         }
     }
 
-    /// The next reply of the writer. `Gone` if it is gone.
-    pub(crate) fn receive<R: Wait>(&mut self, rt: &R) -> Result<WriterReply<N>, Gone>
+    /// The next reply of the writer. `None` if the receive failed, whose [`Gone`] the line keeps.
+    pub(crate) fn receive<R: Wait>(&mut self, rt: &R) -> Option<WriterReply<N>>
         ensures same { (self.new.place ≡ self.old.place) × (self.new.serial ≡ self.old.serial) × (self.new.sent ≡ self.old.sent) }
-        ensures heard { MatchResult result (λ reply. self.new.heard ≡ self.old.heard ++ reply ∷ []) (λ _. self.new.heard ≡ self.old.heard) }
+        ensures heard { MatchOption result (self.new.heard ≡ self.old.heard) (λ reply. self.new.heard ≡ self.old.heard ++ reply ∷ []) }
+        ensures gone { MatchOption result ((gone : Gone) × (self.new.gone ≡ Some gone)) (λ _. self.new.gone ≡ self.old.gone) }
         ensures ahead { self.new.ahead ≡ self.old.ahead }
     {
-        self.replies.wait(rt)
+        match self.replies.wait(rt) {
+            Ok(reply) => Some(reply),
+            Err(gone) => {
+                self.gone = Some(gone);
+                None
+            }
+        }
     }
 
     /// Gives the line up: it sends one End, and nothing after it. If the queue is gone, it sends none. The line's end keeps what the
@@ -434,6 +450,7 @@ impl<N: LineName> SeatLine<N> {
             serial: _,
             replies: _replies,
             ahead: _ahead,
+            gone: _,
             alloc: _,
         } = self;
         line.finish(rt)

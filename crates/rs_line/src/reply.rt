@@ -1,8 +1,10 @@
 //! The way back from the writer to a line.
 
-ghost use Rattle.std.specs.Prelude.{◌≡◌, ◌+◌, ◌<◌, ◌≤◌, ◌∷◌, ◌++◌, [], List, length, IfErr, IfOk, MatchOption, MatchResult, map};
+ghost use Rattle.std.specs.Prelude.{◌≡◌, ◌+◌, ◌*◌, ◌<◌, ◌≤◌, ◌∷◌, ◌++◌, [], List, length, IfErr, IfOk, MatchOption, MatchResult, map};
 ghost use Rattle.rs_line.specs.Done.{ReplyValue, is_held, is_refused, refused_reply, refused_in, untold};
 ghost use Rattle.rs_line.specs.Sending.{AreSentNext};
+ghost use Rattle.rs_line.specs.declared.reply.TheConstants.{FEW_REPLIES};
+ghost use Rattle.rs_queue.specs.declared.job.TheConstants.{MAX_CHANGES};
 
 use crate::fullness::FullnessWriter;
 use crossbeam_channel::protocol::{Lesson, Outcome, Protocol, Split};
@@ -18,11 +20,6 @@ use std::sync::Wait;
 /// How many replies one message has if the writer had to wait for their job: the line reads them while the writer puts the next changes.
 /// No message has fewer, but the last one to a job.
 pub const FEW_REPLIES: usize = 8;
-
-/// The most messages with replies to one job: the capacity of a way back. A line has one job at a time, so the writer waits for no line.
-const MAX_MESSAGES: usize = MAX_CHANGES / FEW_REPLIES;
-
-const _: () = prove!(MAX_MESSAGES * FEW_REPLIES == MAX_CHANGES);
 
 /// The reply of the writer to a change.
 #[derive(Drop)]
@@ -70,31 +67,71 @@ impl<N: StoreName> WriterReply<N> {
     }
 }
 
+/// Replies in their order. One alone takes no block of memory.
+#[derive(Drop)]
+pub enum Replies<N: StoreName> {
+    /// One, or none.
+    One(Option<WriterReply<N>>),
+    /// Any number of them. Behind the others, those that say that memory was refused. If there is none for any other reply, they are entries
+    /// of the job.
+    Many(VecDeque<WriterReply<N>>, VecDeque<Entry>),
+}
+
 /// The replies of the writer to changes of one job that are next to each other, in their order. Contracts see a list of replies.
 #[derive(Drop)]
 pub struct WriterReplies<N: StoreName> {
-    made: VecDeque<WriterReply<N>>,
-    // Behind the others, those that say that memory was refused. If there is none for any other reply, they are entries of the job.
-    refused: VecDeque<Entry>,
+    replies: Replies<N>,
 }
 
 impl<N: StoreName> Model for WriterReplies<N> {
-    ghost use Rattle.std.specs.Prelude.{List, ◌++◌, map};
-    ghost use Rattle.rs_line.specs.Done.{ReplyValue, refused_reply};
+    ghost use Rattle.std.specs.Prelude.{List};
+    ghost use Rattle.rs_line.specs.Done.{ReplyValue};
+    ghost use Rattle.rs_line.specs.Messages.{listed};
 
     ghost Value = { List ReplyValue };
 
-    ghost view = { λ r. r.made.items ++ map refused_reply r.refused.items };
+    ghost view = { λ r. listed r.replies };
+}
+
+/// Takes the first of what is made, or else of what is refused.
+fn next_of<N: StoreName>(
+    made: &mut VecDeque<WriterReply<N>>,
+    refused: &mut VecDeque<Entry>,
+) -> Option<WriterReply<N>>
+    ensures { MatchOption result
+        ((made.old.items ++ map refused_reply refused.old.items ≡ []) × (made.new.items ++ map refused_reply refused.new.items ≡ []))
+        (λ reply. made.old.items ++ map refused_reply refused.old.items
+        ≡ reply ∷ (made.new.items ++ map refused_reply refused.new.items)) }
+{
+    if let Some(reply) = made.pop_front() {
+        return Some(reply);
+    }
+    match refused.pop_front() {
+        Some(change) => Some(WriterReply {
+            origin: change.origin,
+            // Refused: the memory for these replies.
+            outcome: Err(PutFault::NoMemory),
+        }),
+        None => None,
+    }
 }
 
 impl<N: StoreName> WriterReplies<N> {
     /// No replies.
-    fn empty(alloc: Global) -> WriterReplies<N>
+    fn empty() -> WriterReplies<N>
         ensures { result ≡ [] }
     {
         WriterReplies {
-            made: VecDeque::new(alloc),
-            refused: VecDeque::new(alloc),
+            replies: Replies::One(None),
+        }
+    }
+
+    /// This reply alone. Takes no memory.
+    pub fn one(reply: WriterReply<N>) -> WriterReplies<N>
+        ensures { result ≡ reply ∷ [] }
+    {
+        WriterReplies {
+            replies: Replies::One(Some(reply)),
         }
     }
 
@@ -103,15 +140,20 @@ impl<N: StoreName> WriterReplies<N> {
         ensures { result ≡ replies.items }
     {
         WriterReplies {
-            made: VecDeque::from_vec(replies),
-            refused: VecDeque::new(alloc),
+            replies: Replies::Many(VecDeque::from_vec(replies), VecDeque::new(alloc)),
         }
     }
 
     /// Tells what the outcomes say of whether the store is full.
     pub fn show(&self, fullness: &mut FullnessWriter) {
-        for reply in self.made.iter() {
-            fullness.note(&reply.outcome);
+        match &self.replies {
+            Replies::One(Some(reply)) => fullness.note(&reply.outcome),
+            Replies::One(None) => {}
+            Replies::Many(made, _) => {
+                for reply in made.iter() {
+                    fullness.note(&reply.outcome);
+                }
+            }
         }
     }
 
@@ -120,8 +162,7 @@ impl<N: StoreName> WriterReplies<N> {
         ensures { result ≡ map refused_reply changes.items }
     {
         WriterReplies {
-            made: VecDeque::new(alloc),
-            refused: changes,
+            replies: Replies::Many(VecDeque::new(alloc), changes),
         }
     }
 
@@ -129,16 +170,9 @@ impl<N: StoreName> WriterReplies<N> {
     fn next(&mut self) -> Option<WriterReply<N>>
         ensures { MatchOption result ((self.old ≡ []) × (self.new ≡ [])) (λ reply. self.old ≡ reply ∷ self.new) }
     {
-        if let Some(reply) = self.made.pop_front() {
-            return Some(reply);
-        }
-        match self.refused.pop_front() {
-            Some(change) => Some(WriterReply {
-                origin: change.origin,
-                // Refused: the memory for these replies.
-                outcome: Err(PutFault::NoMemory),
-            }),
-            None => None,
+        match &mut self.replies {
+            Replies::One(reply) => reply.take(),
+            Replies::Many(made, refused) => next_of(made, refused),
         }
     }
 }
@@ -194,25 +228,58 @@ impl<N: StoreName> Split<WayPass<N>> for Halves {
     ghost right = { receiving_end };
 }
 
+/// How many replies a message has, but the last one to a job: so many that the way back has space for all messages to the job. Contracts
+/// see it as a number.
+#[derive(Clone, Copy)]
+pub struct MessageSize {
+    size: usize,
+}
+
+impl Model for MessageSize {
+    ghost use Rattle.std.specs.Prelude.{ℕ, ◌≤◌};
+    ghost use Rattle.rs_line.specs.declared.reply.TheConstants.{FEW_REPLIES};
+
+    ghost Value = { ℕ };
+
+    ghost view = { λ s. s.size };
+
+    ghost invariant = { λ s. FEW_REPLIES ≤ s.size };
+
+    ghost inverse = { λ n. record { size = n } };
+}
+
+impl MessageSize {
+    /// The number.
+    pub fn get(self) -> usize
+        ensures { result ≡ self }
+    {
+        self.size
+    }
+}
+
 /// The writer's end. Contracts see the replies that were sent, and the send that failed. Behind that one nothing is sent.
 #[derive(Drop)]
 pub struct ReplySender<N: StoreName> {
     to: RuledSender<WriterReplies<N>, WayPass<N>, ReplyRule>,
     pass: Pass<WriterReplies<N>, WayPass<N>>,
     gone: Option<Gone>,
+    // How many replies each message has at least, but the last one to a job.
+    fewest: usize,
 }
 
 impl<N: StoreName> Model for ReplySender<N> {
-    ghost use Rattle.std.specs.Prelude.{◌≡◌, true, false};
+    ghost use Rattle.std.specs.Prelude.{◌≡◌, ◌≤◌, true, false};
     ghost use Rattle.crossbeam_channel.specs.Claims.{view as known_by, IsSeatAt};
     ghost use Rattle.crossbeam_channel.specs.Ends.{sends_on};
     ghost use Rattle.rs_line.specs.Done.{Told};
+    ghost use Rattle.rs_line.specs.declared.reply.TheConstants.{FEW_REPLIES};
 
     ghost Value = { Told };
 
     ghost view = { λ s. record { sent = (known_by s.pass).replies; gone = s.gone } };
 
-    ghost invariant = { λ s. IsSeatAt (sends_on s.to) s.pass × ((known_by s.pass).sends ≡ true) × ((known_by s.pass).receives ≡ false) };
+    ghost invariant = { λ s. IsSeatAt (sends_on s.to) s.pass × ((known_by s.pass).sends ≡ true) × ((known_by s.pass).receives ≡ false)
+        × (FEW_REPLIES ≤ s.fewest) };
 }
 
 /// What is left of the writer's end, once it sends no more. Contracts see the replies that were sent, and the send that failed.
@@ -242,7 +309,6 @@ pub struct ReplyReceiver<N: StoreName> {
     polls: Polls,
     patience: Patience,
     came: WriterReplies<N>,
-    alloc: Global,
 }
 
 impl<N: StoreName> Model for ReplyReceiver<N> {
@@ -260,16 +326,30 @@ impl<N: StoreName> Model for ReplyReceiver<N> {
         × ((known_by r.pass).replies ≡ before (known_by r.pass).replies r.came ++ r.came) };
 }
 
-/// The two ends of the way back to one line, by which nothing was sent. Its capacity is that of the replies to one job.
+/// How many messages the replies to a job are at most, if all but the last have at least so many replies.
+fn most_messages(fewest: usize) -> usize
+    requires { 0 < fewest }
+    ensures { (0 < result) × (MAX_CHANGES ≤ result * fewest) }
+{
+    MAX_CHANGES.div_ceil(fewest)
+}
+
+/// The two ends of the way back to one line, by which nothing was sent. No message that is sent by it has to have fewer replies than this,
+/// but the last one to a job.
+///
+/// It has space for all messages with replies to one job. A line sends a job only once it has taken all replies to the one before, so the
+/// writer waits for no line: what it sends for a job finds the way back empty.
 pub fn way_back<N: StoreName>(
     alloc: Global,
     polls: Polls,
+    fewest: usize,
 ) -> Result<(ReplySender<N>, ReplyReceiver<N>), AllocError>
+    requires { (FEW_REPLIES ≤ fewest) × (fewest ≤ MAX_CHANGES) }
     ensures { IfOk result (λ r. (r.0 ≡ untold) × (r.1.heard ≡ []) × (r.1.came ≡ [])) }
 {
     let (to, from, mut pass) = bounded_with::<WriterReplies<N>, WayPass<N>, ReplyRule, Global>(
         alloc,
-        MAX_MESSAGES,
+        most_messages(fewest),
     )?;
     let other = to.another::<Halves>(&mut pass);
     Ok((
@@ -277,19 +357,28 @@ pub fn way_back<N: StoreName>(
             to,
             pass,
             gone: None,
+            fewest,
         },
         ReplyReceiver {
             from,
             pass: other,
             polls,
             patience: Patience::new(polls.line),
-            came: WriterReplies::empty(alloc),
-            alloc,
+            came: WriterReplies::empty(),
         },
     ))
 }
 
 impl<N: StoreName> ReplySender<N> {
+    /// So many replies, or more if the way back has space for fewer messages.
+    pub fn message_size(&self, wanted: usize) -> MessageSize
+        ensures { wanted ≤ result }
+    {
+        MessageSize {
+            size: wanted.max(self.fewest),
+        }
+    }
+
     /// Sends the replies. If the line is gone, or was for a send before, they are dropped. Takes no memory.
     pub fn send<R: Wait>(&mut self, rt: &R, replies: WriterReplies<N>)
         requires { 0 < length replies }
@@ -315,13 +404,14 @@ impl<N: StoreName> ReplySender<N> {
             to: _to,
             pass,
             gone,
+            fewest: _,
         } = self;
         WayEnd { pass, gone }
     }
 }
 
 impl<N: StoreName> ReplyReceiver<N> {
-    /// It polls less from now on, as that of a line that clients share.
+    /// It polls less from now on, as that of a line whose client shares its threads.
     pub fn share(&mut self)
         ensures { self.new ≡ self.old }
     {
@@ -384,7 +474,7 @@ impl<N: StoreName> ReplyReceiver<N> {
     fn skip(&mut self)
         ensures { (self.new.heard ≡ self.old.heard ++ self.old.came) × (self.new.came ≡ []) }
     {
-        self.came = WriterReplies::empty(self.alloc);
+        self.came = WriterReplies::empty();
     }
 
     /// Waits for the next `count` replies, and drops them.

@@ -6,6 +6,13 @@ use Rattle.rs_message.specs.declared.entry.Entry.{Entry}
 use Rattle.rs_message.specs.declared.entry.Operation.{Operation}
 use Rattle.rs_store.specs.History.{SerialsRise}
 use Rattle.rs_queue.specs.declared.job.TheConstants.{MAX_CHANGES}
+use Rattle.rs_queue.specs.declared.job.Entries.{Entries}
+use Rattle.rs_queue.specs.declared.job.Entries.TheVariants.{One, Many}
+
+-- the entries as a list
+abbrev pub listed : Entries → List Entry
+listed (One entry) = entry ∷ []
+listed (Many entries) = entries.items
 
 -- all entries are of this place
 abbrev pub AreOf : ℕ → List Entry → Type 0

@@ -19,7 +19,7 @@ const WRITER: u64 = 70_000;
 /// if they polled longer, those that wait would take processors from the writer.
 const LINE: u64 = 18_000;
 
-/// How long a line polls that clients share, in nanoseconds. Their threads are far more than the processors, so hardly any is free to wait.
+/// How long a line polls whose client shares its threads, in nanoseconds. These serve many clients, so hardly any is free to wait.
 const SHARED: u64 = 1_000;
 
 /// The fewest polls of a wait, however long one lasts.
@@ -35,7 +35,7 @@ pub struct Polls {
     pub writer: u32,
     /// That of a line.
     pub line: u32,
-    /// That of a line that clients share.
+    /// That of a line whose client shares its threads.
     pub shared: u32,
 }
 

@@ -3,8 +3,8 @@
 ghost use Rattle.std.specs.Prelude.{◌≡◌, ◌+◌, ◌<◌, ◌≤◌, ◌^◌, ◌∷◌, [], length, false, IfSome};
 ghost use Rattle.std.specs.List.{AllByRecursion};
 ghost use Rattle.rs_message.specs.Messages.{is_sweep};
-ghost use Rattle.rs_message.specs.declared.entry.TheConstants.{MAX_PLACES};
-ghost use Rattle.rs_queue.specs.Changes.{numbered};
+ghost use Rattle.rs_message.specs.declared.entry.TheConstants.{MAX_LINES};
+ghost use Rattle.rs_queue.specs.Changes.{entry_at, numbered};
 ghost use Rattle.rs_queue.specs.declared.job.TheConstants.{MAX_CHANGES};
 
 use crate::job::Changes;
@@ -17,11 +17,11 @@ use std::collections::VecDeque;
 /// or memory is refused.
 fn number_entries(
     alloc: Global,
-    place: u8,
+    place: u16,
     serial: u64,
     operations: Vec<Operation>,
 ) -> Option<Vec<Entry>>
-    requires { (0 < place) × (place ≤ MAX_PLACES) }
+    requires { (0 < place) × (place ≤ MAX_LINES) }
     ensures entries { IfSome result (λ es. es.items ≡ numbered place serial operations.items) }
     ensures small { IfSome result (λ es. serial + length es.items < 2 ^ 64) }
 {
@@ -29,7 +29,7 @@ fn number_entries(
     let mut last = serial;
     for operation in operations {
         last = last.checked_add(1)?;
-        let origin = Origin::new(place, last)?;
+        let origin = Origin::of_line(place, last)?;
         entries.push(Entry { origin, operation }).ok()?;
     }
     Some(entries)
@@ -50,11 +50,11 @@ fn copies(alloc: Global, entries: &Vec<Entry>) -> Option<Vec<Entry>>
 /// for all, or memory is refused or short.
 pub fn prepare(
     alloc: Global,
-    place: u8,
+    place: u16,
     serial: u64,
     operations: Vec<Operation>,
 ) -> Option<(Changes, VecDeque<Entry>)>
-    requires place { (0 < place) × (place ≤ MAX_PLACES) }
+    requires place { (0 < place) × (place ≤ MAX_LINES) }
     requires plain { AllByRecursion (λ o. is_sweep o ≡ false) operations.items }
     requires some { 0 < length operations.items }
     requires few { length operations.items ≤ MAX_CHANGES }
@@ -78,7 +78,7 @@ fn is_set(entry: &Entry) -> bool {
     }
 }
 
-/// This entry alone, as a job. `None` if memory is refused, or is short and the entry takes more of it.
+/// This entry alone, as a job, which takes no memory. `None` if memory is short and the entry takes more of it.
 pub fn prepare_one(alloc: Global, entry: Entry) -> Option<Changes>
     requires plain { is_sweep entry.operation ≡ false }
     requires place { 0 < entry.origin.place }
@@ -87,7 +87,25 @@ pub fn prepare_one(alloc: Global, entry: Entry) -> Option<Changes>
     if is_set(&entry) && !has_room(alloc) {
         return None;
     }
-    let mut entries = Vec::with_capacity(alloc, 1).ok()?;
-    entries.push(entry).ok()?;
-    Some(Changes::new(entries))
+    Some(Changes::one(entry))
+}
+
+/// The entry of this place that does this under the serial behind this one, as a job, and a copy of it. `None` if there is no such serial,
+/// or as [`prepare_one`] has it, or if the count of owners of its bytes is full.
+pub fn prepare_next(
+    alloc: Global,
+    place: u16,
+    serial: u64,
+    operation: Operation,
+) -> Option<(Changes, Entry)>
+    requires place { (0 < place) × (place ≤ MAX_LINES) }
+    requires plain { is_sweep operation ≡ false }
+    ensures job { IfSome result (λ r. r.0 ≡ r.1 ∷ []) }
+    ensures ahead { IfSome result (λ r. r.1 ≡ entry_at place (serial + 1) operation) }
+    ensures small { IfSome result (λ r. serial + 1 < 2 ^ 64) }
+{
+    let origin = Origin::of_line(place, serial.checked_add(1)?)?;
+    let entry = Entry { origin, operation };
+    let copy = entry.copy().ok()?;
+    Some((prepare_one(alloc, copy)?, entry))
 }

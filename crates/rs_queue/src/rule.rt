@@ -8,21 +8,21 @@ use std::collections::LinkedList;
 
 /// All that was sent from a place. No value of it is made.
 pub struct SentFrom {
-    pub place: u8,
+    pub place: u16,
     pub entries: LinkedList<Entry>,
 }
 
 /// What a pass of the queue knows: the entries and the End that a line sent, or those that the writer took. No value of it is made.
 pub struct PassView {
     /// The place, if it is a line's.
-    pub from: u8,
+    pub from: u16,
     pub sends: bool,
     pub takes: bool,
     /// How many lines were made, if it is the writer's.
     pub made: u64,
     pub entries: LinkedList<Entry>,
     /// The places of the Ends that it sent or took.
-    pub ends: LinkedList<u8>,
+    pub ends: LinkedList<u16>,
     /// What was sent from each line that has ended, if it is the writer's.
     pub known: LinkedList<SentFrom>,
 }

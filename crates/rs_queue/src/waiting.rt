@@ -12,8 +12,8 @@ use crossbeam_channel::{Pass, RecvError, RuledReceiver, RuledSender, SendError, 
 use std::hint::spin_loop;
 use std::sync::Wait;
 
-/// A send or a receive failed: the other ends of its channel were gone. Only the two functions below make such a value, of the failure
-/// that their call on the channel answered, so it stands for that call in contracts.
+/// A send or a receive on a channel failed, as it does once the other ends are gone. Only the two functions below make such a value, of the
+/// failure that their call on the channel answered, so it stands for that call in contracts. That the ends were gone no clause says.
 #[derive(Debug, Drop)]
 pub struct Gone {
     seen: (),

@@ -5,7 +5,7 @@ ghost use Rattle.std.specs.Prelude.{◌≡◌};
 use super::script::{Act, operation_of};
 use rs_intake::{BlankQueue, blank_queue, run_writer};
 use rs_line::{Fullness, Intake, LineName, SeatLine};
-use rs_message::PlaceCount;
+use rs_message::{LineCount, PlaceCount};
 use rs_version::Blank;
 use rs_version_kit::blank_store;
 use std::alloc::Global;
@@ -79,7 +79,7 @@ fn right_steps_over<
 fn it_is_full_from_a_refusal_until_there_may_be_space(rt: HostRuntime) -> Result<(), Fail> {
     let one = PlaceCount::new(1).ok_or("a place")?;
     let blank = blank_store(rt.alloc(), 2, one)?;
-    let queue = blank_queue(rt.alloc(), one)?;
+    let queue = blank_queue(rt.alloc(), LineCount::of_places(one))?;
     let right = right_steps_over::<Brand, _>(rt, rt.alloc(), blank, queue);
     assert!(rt; right == Some(STEPS.len()));
     Ok(())

@@ -27,7 +27,7 @@ pub(crate) struct Reading {
 /// What a place did, and the outcomes.
 #[derive(Drop)]
 pub(crate) struct Log {
-    pub(crate) place: u8,
+    pub(crate) place: u16,
     pub(crate) outcomes: Vec<Outcome>,
     pub(crate) readings: Vec<Reading>,
     /// The longest version that the place knows.
@@ -42,7 +42,7 @@ pub(crate) struct Log {
 }
 
 impl Log {
-    pub(crate) fn new(alloc: Global, place: u8) -> Log {
+    pub(crate) fn new(alloc: Global, place: u16) -> Log {
         Log {
             place,
             outcomes: Vec::new(alloc),

@@ -8,7 +8,7 @@ use super::log::{Log, Outcome, Ran, Totals};
 use super::script::{Act, Script, operation_of};
 use rs_intake::{BlankQueue, Ended, Queue, blank_queue, run_writer, run_writer_for, settle};
 use rs_line::{Intake, LineEnd, LineName, SeatLine};
-use rs_message::{Operation, PlaceCount};
+use rs_message::{LineCount, Operation, PlaceCount};
 use rs_version::{Blank, Receipt, Seat, VersionWriter};
 use rs_version_kit::{blank_store, read_all};
 use std::alloc::Global;
@@ -83,7 +83,7 @@ fn next_random(state: u64) -> u64 {
 }
 
 /// The first number of a place. No two places share their numbers, whatever the seed.
-fn first_random(script: Script, place: u8) -> u64 {
+fn first_random(script: Script, place: u16) -> u64 {
     let seed = match script {
         Script::Random(seed) => seed,
         _ => 0,
@@ -124,7 +124,7 @@ fn submit<N: LineName, R: Wait>(
 }
 
 /// The changes of so many steps, from this one on. `None` if memory is refused.
-fn changes_of(task: &Task, place: u8, first: u32, count: u32) -> Option<Vec<Operation>>
+fn changes_of(task: &Task, place: u16, first: u32, count: u32) -> Option<Vec<Operation>>
     ensures { IfSome result (λ changes. All (λ o. is_sweep o ≡ false) changes.items) }
 {
     let mut changes = Vec::new(task.alloc);
@@ -368,7 +368,7 @@ pub(crate) fn run<R: Threads + Wait + Clock + Abort + Copy + Send + Sync + 'stat
     )?;
     let places = PlaceCount::new(setup.places).ok_or("no places")?;
     let blank = blank_store(setup.alloc, setup.limit, places)?;
-    let queue = blank_queue(setup.alloc, places)?;
+    let queue = blank_queue(setup.alloc, LineCount::of_places(places))?;
     let ran = run_named::<Brand, R>(rt, blank, queue, setup, &counts);
     Ok(ran.ok_or("memory or a thread was refused")?)
 }

@@ -84,7 +84,7 @@ impl Script {
     }
 
     /// What the place does in this step.
-    pub(crate) fn act(&self, place: u8, step: u32, random: u64) -> Act {
+    pub(crate) fn act(&self, place: u16, step: u32, random: u64) -> Act {
         match self {
             Script::Changes | Script::Two => change_at(step),
             Script::Together => act_together(step),
@@ -93,7 +93,7 @@ impl Script {
             Script::Late => change_at(step),
             Script::Unread => act_unread(place, step),
             Script::Hundred => act_of_hundred(place, step),
-            Script::Largest if place < MAX_PLACES => Act::Nothing,
+            Script::Largest if place < u16::from(MAX_PLACES) => Act::Nothing,
             Script::Largest if step == 0 => Act::Largest,
             Script::Largest => Act::Read(u64::MAX),
             Script::Beside => act_beside(place, step),
@@ -104,9 +104,9 @@ impl Script {
 }
 
 /// Text of two letters, the first of which is of the place.
-fn pair(place: u8, number: u32) -> [u8; 2] {
+fn pair(place: u16, number: u32) -> [u8; 2] {
     [
-        b'0'.saturating_add(place),
+        b'0'.saturating_add((place % 128) as u8),
         b'0'.saturating_add((number % 128) as u8),
     ]
 }
@@ -149,7 +149,7 @@ fn act_together(step: u32) -> Act {
     }
 }
 
-fn act_early(place: u8, step: u32) -> Act {
+fn act_early(place: u16, step: u32) -> Act {
     match (place, step) {
         (_, 1) => Act::Meet(1),
         (_, 3) => Act::Meet(2),
@@ -164,7 +164,7 @@ fn act_early(place: u8, step: u32) -> Act {
 }
 
 /// From the step that is announced first on, the steps say what is announced, and none is taken.
-fn act_unread(place: u8, step: u32) -> Act {
+fn act_unread(place: u16, step: u32) -> Act {
     let (count, first) = UNREAD;
     match (place, step) {
         (_, 2) => Act::Meet(1),
@@ -178,7 +178,7 @@ fn act_unread(place: u8, step: u32) -> Act {
     }
 }
 
-fn act_of_hundred(place: u8, step: u32) -> Act {
+fn act_of_hundred(place: u16, step: u32) -> Act {
     if step < SETS {
         return set(pair(place, 0), pair(0, step));
     }
@@ -193,7 +193,7 @@ pub(crate) fn last_of_hundred() -> [u8; 2] {
     pair(0, SETS - 1)
 }
 
-fn act_beside(place: u8, step: u32) -> Act {
+fn act_beside(place: u16, step: u32) -> Act {
     if step == READS {
         return Act::Meet(1);
     }
@@ -207,7 +207,7 @@ fn act_beside(place: u8, step: u32) -> Act {
 }
 
 /// The moments of the rounds are 10, 20 and 30.
-fn act_of_round(place: u8, step: u32) -> Act {
+fn act_of_round(place: u16, step: u32) -> Act {
     if step > 5 {
         return Act::Read(30);
     }
@@ -219,7 +219,7 @@ fn act_of_round(place: u8, step: u32) -> Act {
 }
 
 /// In a third of the steps a read, else a Set of one of four topics, three of four times, or its Clear.
-fn any_act(place: u8, step: u32, random: u64) -> Act {
+fn any_act(place: u16, step: u32, random: u64) -> Act {
     if random / 64 % 3 == 0 {
         return Act::Read(0);
     }

@@ -8,8 +8,8 @@ returns-in_err-entry-clause-other g c = λ other.
     let p = err_from_is_err_and c.from_residual.result c.from_residual.ensures.1 in
     (refused_as _ _ _ _ _ c.in_err-entry.was o.0 p.1 p.2, o.1, o.2)
 
-pub returns-in-Ok-clause-other : goal.returns-in-Ok-clause-other
-returns-in-Ok-clause-other g c = λ other. absurd (ok_not_err _ _ _ c.in_ok-entry.was (c.send.ensures.other other).0)
+pub returns-in-Some-clause-other : goal.returns-in-Some-clause-other
+returns-in-Some-clause-other g c = λ other. absurd (ok_not_err _ _ _ c.in_ok-entry.was (c.send.ensures.other other).0)
 
 pub returns-clause-other : goal.returns-clause-other
 returns-clause-other g c = λ other. absurd (ok_not_err _ _ _ c.in_ok-entry.was (c.send.ensures.other other).0)

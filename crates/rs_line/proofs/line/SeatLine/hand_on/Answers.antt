@@ -7,7 +7,7 @@ use Rattle.rs_line.proofs.line.SeatLine.hand_on.Goals as goal
 pub invariant_of-self : goal.invariant_of-self
 invariant_of-self g c =
     let S : Line → Type 0 = λ v. c.last_serial-self-inside.result ≡ v.serial + length v.ahead in
-    seat_handed_on _ _ _ _ _ _ (subst S (sym c.self.view_is) c.last_serial-self-inside.ensures) c.new.ensures.items c.self.invariant
+    seat_handed_on _ _ _ _ _ _ (subst S (sym c.self.view_is) c.last_serial-self-inside.ensures) c.empty.ensures c.self.invariant
 
 pub returns-clause-heard : goal.returns-clause-heard
 returns-clause-heard g c =

@@ -1,0 +1,120 @@
+-- What the writer did so far goes on with each step.
+use Rattle.std.specs.Prelude.{IfSome, Option, None, Some}
+use Rattle.std.proofs.Common.{◌≡◌, ℕ, ◌+◌, List, [], ◌∷◌, ◌++◌, length, replicate, refl, sym, ap, subst, ◌∙◌, length-append, append-nil, arith}
+use Rattle.rs_message.specs.declared.entry.Entry.{Entry}
+use Rattle.rs_version.specs.Writer.{kept_of}
+use Rattle.rs_queue.specs.Changes.{AreOfOneJob, place_of_all}
+use Rattle.rs_queue.specs.QueueRule.{IsPlaced, ends_of, entries_in}
+use Rattle.rs_queue.specs.declared.job.Job.{Job}
+use Rattle.rs_queue.specs.declared.job.Job.TheVariants.{End, Put}
+use Rattle.rs_line.specs.Done.{AreReplied, AreTold, IsWritten, ReplyValue, Told, not_refused, replies_to, untold}
+use Rattle.rs_line.specs.Sending.{AreSentTo}
+use Rattle.rs_line.specs.Sweeps.{IsKeptFrom, without_sweeps}
+use Rattle.rs_line.specs.Lines.{Received}
+use Rattle.rs_intake.specs.Causes.{HaveEnded, IsCause}
+use Rattle.rs_intake.specs.declared.cause.Cause.{Cause}
+use Rattle.rs_intake.specs.declared.cause.Cause.TheVariants.{AllEnded}
+use Rattle.rs_intake.specs.Settling.{AreOfPlaces}
+use Rattle.rs_intake.specs.Writers.{IsUnderWay, WriterValue}
+use Rattle.rs_intake.proofs.Causes.{placed_first}
+use Rattle.rs_intake.proofs.Done.{all_kept_from, all_plain, done_append, not_refused_append, replies_append, without_all}
+use Rattle.rs_intake.proofs.Sums.{placed_more}
+use Rattle.rs_intake.proofs.Sweeps.{kept_from_start}
+use Rattle.rs_intake.proofs.Telling.{told_more, told_none}
+
+-- nothing was taken
+pub none_taken : (limit places : ℕ) (w : WriterValue) → w.received.entries ≡ [] → kept_of w.writer ≡ [] → w.ways ≡ replicate places untold → w.taken ≡ 0 → w.refused ≡ 0 → IsUnderWay limit places w
+none_taken limit places w none empty new taken refused =
+    let P : List Entry → List Entry → Type 0 = λ l k. IsWritten limit places l k w.ways in
+    let Q : List Entry → Type 0 = λ k. IsWritten limit places [] k w.ways in
+    let zero : length (without_sweeps (kept_of w.writer)) ≡ 0 = ap (λ (l : List Entry). length (without_sweeps l)) empty in
+    record {
+      written = subst (λ (l : List Entry). P l (kept_of w.writer)) (sym none) (subst Q (sym empty) (record { outcomes = []; done = refl; changes = refl; told = told_none places w.ways new }));
+      placed = subst (AreOfPlaces places) (sym none) (λ place out. refl);
+      kept_from = kept_from_start limit w.received.entries (kept_of w.writer) none empty;
+      taken_is = taken ∙ sym (ap length none);
+      refused_is = omega (arith, zero, refused, taken);
+    }
+
+-- the same of values that agree
+pub under_way_same : (limit places : ℕ) (w w' : WriterValue) → w'.received.entries ≡ w.received.entries → kept_of w'.writer ≡ kept_of w.writer → w'.ways ≡ w.ways → w'.taken ≡ w.taken → w'.refused ≡ w.refused
+    → IsUnderWay limit places w → IsUnderWay limit places w'
+under_way_same limit places w w' same kept ways taken refused u =
+    let A : List Entry → Type 0 = λ l. IsWritten limit places l (kept_of w'.writer) w'.ways in
+    let B : List Entry → Type 0 = λ k. IsWritten limit places w.received.entries k w'.ways in
+    let C : List Told → Type 0 = λ t. IsWritten limit places w.received.entries (kept_of w.writer) t in
+    let D : List Entry → Type 0 = λ l. IsKeptFrom limit l (kept_of w'.writer) in
+    let E : List Entry → Type 0 = λ k. IsKeptFrom limit w.received.entries k in
+    record {
+      written = subst A (sym same) (subst B (sym kept) (subst C (sym ways) u.written));
+      placed = subst (AreOfPlaces places) (sym same) u.placed;
+      kept_from = subst D (sym same) (subst E (sym kept) u.kept_from);
+      taken_is = taken ∙ (u.taken_is ∙ sym (ap length same));
+      refused_is = ap (λ (l : List Entry). length (without_sweeps l) + w'.refused) kept ∙ (ap (λ n. length (without_sweeps (kept_of w.writer)) + n) refused ∙ (u.refused_is ∙ sym taken));
+    }
+
+-- the changes of one job were put
+put_more : (limit places : ℕ) (w w' : WriterValue) (changes : List Entry) (replies : List ReplyValue) (count : ℕ) → w'.received.entries ≡ w.received.entries ++ changes → IsPlaced places (Put changes)
+    → AreOfOneJob changes → AreReplied limit w.writer changes replies count w'.writer → AreSentTo (place_of_all changes) w.ways replies w'.ways → w'.taken ≡ w.taken + length changes → w'.refused ≡ w.refused + count
+    → IsUnderWay limit places w → IsUnderWay limit places w'
+put_more limit places w w' changes replies count more there are r to taken refused u =
+    let entries = w.received.entries in
+    let kept = kept_of w.writer in
+    let kept' = kept_of w'.writer in
+    let written = u.written in
+    let few = placed_first places changes there in
+    let all = all_kept_from limit entries changes r.outcomes kept kept' u.kept_from (all_plain changes are.plain) r.done in
+    let S : List ReplyValue → Type 0 = λ l. AreSentTo (place_of_all changes) w.ways l w'.ways in
+    let told = told_more places (place_of_all changes) (replies_to entries written.outcomes) changes r.outcomes w.ways w'.ways are.above few are.place written.told (subst S r.replies_are to) in
+    let T : List ReplyValue → Type 0 = λ l. AreTold places l w'.ways in
+    let P : List Entry → Type 0 = λ l. IsWritten limit places l kept' w'.ways in
+    let K : List Entry → Type 0 = λ l. IsKeptFrom limit l kept' in
+    let n = length-append entries changes in
+    let m = ap length more in
+    let number = u.taken_is in
+    let sum = u.refused_is in
+    let rest = all.1 in
+    let refusals = r.refused_are in
+    record {
+      written = subst P (sym more) (
+          record {
+            outcomes = written.outcomes ++ r.outcomes;
+            done = done_append limit [] entries written.outcomes kept changes r.outcomes kept' written.done r.done;
+            changes = without_all limit kept changes r.outcomes kept' are.plain r.done
+                ∙ (ap (λ l. l ++ not_refused changes r.outcomes) written.changes ∙ sym (not_refused_append limit [] entries written.outcomes kept changes r.outcomes written.done));
+            told = subst T (sym (replies_append limit [] entries written.outcomes kept changes r.outcomes written.done)) told;
+          }
+          );
+      placed = subst (AreOfPlaces places) (sym more) (placed_more places entries (Put changes) u.placed there);
+      kept_from = subst K (sym more) all.0;
+      taken_is = omega (arith, n, m, number, taken);
+      refused_is = omega (arith, sum, rest, refusals, taken, refused);
+    }
+
+-- why no job comes after, if the last End was taken
+pub ended_cause : (places most : ℕ) (received : Received) (result : Option Cause) → result ≡ Some AllEnded → HaveEnded places received.ends → IfSome result (λ cause. IsCause places most received cause)
+ended_cause places most received result is ended = subst (λ (o : Option Cause). IfSome o (λ cause. IsCause places most received cause)) (sym is) ended
+
+pub no_cause : (places most : ℕ) (received : Received) (result : Option Cause) → result ≡ None → IfSome result (λ cause. IsCause places most received cause)
+no_cause places most received result is = subst (λ (o : Option Cause). IfSome o (λ cause. IsCause places most received cause)) (sym is) tt
+
+-- the same by the job
+pub job_put : (limit places : ℕ) (v w : WriterValue) (job : Job) (changes : List Entry) (len count : ℕ) → job ≡ Put changes → w.received.entries ≡ v.received.entries ++ entries_in job → IsPlaced places job → AreOfOneJob changes
+    → (replies : List ReplyValue) → AreReplied limit v.writer changes replies count w.writer → AreSentTo (place_of_all changes) v.ways replies w.ways → len ≡ length changes → w.taken ≡ v.taken + len → w.refused ≡ v.refused + count
+    → IsUnderWay limit places v → IsUnderWay limit places w
+job_put limit places v w job changes len count is entries there are replies put told number taken refused u =
+    let J : Job → Type 0 = λ j. IsPlaced places j × (w.received.entries ≡ v.received.entries ++ entries_in j) in
+    let j = subst J is (there, entries) in
+    put_more limit places v w changes replies count j.1 j.0 are put told (taken ∙ ap (λ n. v.taken + n) number) refused u
+
+-- no more Ends were taken by a job of changes
+pub no_end : (ends ends' : List ℕ) (job : Job) (changes : List Entry) → ends' ≡ ends ++ ends_of (job ∷ []) → job ≡ Put changes → ends' ≡ ends
+no_end ends ends' job changes more is = more ∙ (ap (λ (x : Job). ends ++ ends_of (x ∷ [])) is ∙ append-nil ends)
+
+-- one was, by an End
+pub one_end : (ends ends' : List ℕ) (job : Job) (place : ℕ) → ends' ≡ ends ++ ends_of (job ∷ []) → job ≡ End place → length ends' ≡ length ends + 1
+one_end ends ends' job place more is = ap length more ∙ (ap (λ (x : Job). length (ends ++ ends_of (x ∷ []))) is ∙ length-append ends (place ∷ []))
+
+-- an End asks for no entry
+pub none_asked : (entries entries' : List Entry) (job : Job) (place : ℕ) → entries' ≡ entries ++ entries_in job → job ≡ End place → entries' ≡ entries
+none_asked entries entries' job place more is = more ∙ (ap (λ (x : Job). entries ++ entries_in x) is ∙ append-nil entries)
