@@ -1,5 +1,5 @@
 -- One connection over bytes in memory.
-use Rattle.std.specs.Prelude.{◌≡◌, ℕ, true, List, [], ◌++◌, None}
+use Rattle.std.specs.Prelude.{◌≡◌, ℕ, List, [], ◌++◌, None}
 use Rattle.std.specs.List.{All}
 use Rattle.rs_message.specs.declared.entry.Entry.{Entry}
 use Rattle.rs_store.specs.History.{IsLegal, last_serial}
@@ -30,7 +30,7 @@ pub record IsServed (input : List ℕ) (now : ℕ) (served : Served) (output : L
   pub taken : List ℕ
   pub buffered : List ℕ
   pub rest : List ℕ
-  pub run : Run (start (assigned_of 1 1) [] (record { place = 1; serial = 0; alone = true; sent = None })) exchanges to
+  pub run : Run (start (assigned_of 1 1) [] (record { place = 1; serial = 0; sent = None })) exchanges to
   pub split : input ≡ taken ++ rest
   pub inputs : InputsOf (inputs_of exchanges) taken buffered
   pub moments : All (λ moment. moment ≡ now) (moments_of exchanges)

@@ -402,10 +402,10 @@ run_keeps from to before exchange after o p answer run rising is told =
 -- ---- the marks
 
 grows_itself : (mark used : Mark) → used ≡ mark → MarkGrows mark used
-grows_itself mark used e = record { place = ap (λ (m : Mark). m.place) e; alone = ap (λ (m : Mark). m.alone) e; serial = omega (arith, ap (λ (m : Mark). m.serial) e) }
+grows_itself mark used e = record { place = ap (λ (m : Mark). m.place) e; serial = omega (arith, ap (λ (m : Mark). m.serial) e) }
 
 uses_grows : (mark used : Mark) → Uses mark used → MarkGrows mark used
-uses_grows mark used u = record { place = u.place; alone = u.alone; serial = u.no_lower }
+uses_grows mark used u = record { place = u.place; serial = u.no_lower }
 
 row_marks : (case : OpenCase) (given : Given) (from : Point Open) (answered : List (List Entry)) (effect : Effect) (to : Point Open)
     → OpenRow case given from answered effect to → MarkGrows from.mark to.mark
@@ -449,4 +449,4 @@ run_marks from to [] e = grows_itself from.mark to.mark (ap (λ (p : Point State
 run_marks from to (exchange ∷ exchanges) (t, rest) =
     let here = exchange_marks t.case exchange.given from exchange.answered t.due (with_state exchange.to t.mid) t.row.1 in
     let later = run_marks exchange.to to exchanges rest in
-    record { place = later.place ∙ here.place; alone = later.alone ∙ here.alone; serial = omega (arith, here.serial, later.serial) }
+    record { place = later.place ∙ here.place; serial = omega (arith, here.serial, later.serial) }

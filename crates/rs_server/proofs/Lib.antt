@@ -4,5 +4,4 @@ pub mod Written
 pub mod Conversations
 pub mod Inputs
 pub mod Planning
-pub mod CountedGates
 pub mod Goings

@@ -18,8 +18,8 @@ use std::sync::Wait;
 /// Which connection of the server this is.
 #[derive(Clone, Copy, Debug, PartialEq, Eq)]
 pub struct ConnectionId {
-    /// The place that serves it: 1 to [`MAX_PLACES`](rs_message::MAX_PLACES) if its gate makes entries. [`serve`] does not check it.
-    pub place: u8,
+    /// The place that serves it: 1 to [`MAX_LINES`](rs_message::MAX_LINES) if its gate makes entries. [`serve`] does not check it.
+    pub place: u16,
     /// Its number among the connections of its place, from 1.
     pub number: u64,
 }

@@ -1,26 +1,17 @@
 //! A gate that counts what is refused.
 
-ghost use Rattle.std.specs.Prelude.{◌≡◌, ◌<◌, ◌-◌, ◌^◌, List, false, IfOk};
+ghost use Rattle.std.specs.Prelude.{◌≡◌, false, IfOk};
 ghost use Rattle.std.specs.Option.{option_map};
-ghost use Rattle.rs_message.specs.declared.entry.Entry.{Entry};
 ghost use Rattle.rs_message.specs.Messages.{is_sweep};
 ghost use Rattle.rs_store.specs.History.{IsAnswer, IsAnswerWithin};
 ghost use Rattle.rs_session.specs.Gate.{Grows, SendsAtMost, Submits, TakesPending, Uses, entry_by};
-ghost use Rattle.rs_server.specs.Clock.{TellsInOrder};
-ghost use Rattle.rs_server.specs.Conversation.{Causes, IsConnection, assigned_of, gate_view, start};
-ghost use Rattle.rs_server.specs.Counts.{failures_of, inner_of, next_count};
+ghost use Rattle.rs_server.specs.Counts.{next_count};
 ghost use Rattle.rs_server.specs.Refusals.{gate_of, none_refused, refusals_of, with_change, with_filter, with_filter_within};
 
-use crate::clock::Clock;
-use crate::connection::{ConnectionId, Served, serve};
-use crate::counted::Counted;
-use crate::writing::ServeFault;
 use rs_message::{Found, Operation, SubmitFault};
 use rs_session::Gate;
 use rs_topic::TopicFilter;
-use std::alloc::{AllocError, Global};
-use std::io::{Read, Write};
-use std::sync::Wait;
+use std::alloc::AllocError;
 
 /// How many changes and filters a gate refused, by cause. Each count stays at [`u64::MAX`].
 #[derive(Clone, Copy, Debug, PartialEq, Eq)]
@@ -188,44 +179,4 @@ impl<G: Gate> Gate for CountedGate<G> {
         }
         answer
     }
-}
-
-/// Serves one connection as [`serve`] does, over a [`CountedGate`]: how it ends, the gate, and what was counted. No clause says how many
-/// calls of the gate there are: one for each publication that asks for a change, and one for each filter whose retained messages are to be
-/// sent, if the session has the memory and the space for it.
-///
-/// # Errors
-///
-/// As [`serve`].
-pub fn serve_counted<H: Wait, R: Read, W: Write, G: Gate, C: Clock>(
-    rt: &H,
-    alloc: Global,
-    reader: &mut Counted<R>,
-    writer: &mut Counted<W>,
-    gate: G,
-    id: ConnectionId,
-    clock: &mut C,
-) -> (Result<Served, ServeFault>, G, Tally)
-    requires reader_can_rise { failures_of reader.old < 2 ^ 64 - 1 }
-    requires writer_can_rise { failures_of writer.old < 2 ^ 64 - 1 }
-    ensures conversation { (seen : List Entry) → G.stands gate seen
-        → IsConnection (start (assigned_of id.place id.number) seen (G.mark gate)) (G.pending gate) G.most
-        (gate_view G.stands G.mark G.pending result.1)
-        (record {
-          unread = R.remaining (inner_of reader.old);
-          rest = R.remaining (inner_of reader.new);
-          written = W.contents (inner_of writer.old);
-          more = W.contents (inner_of writer.new);
-          told = TellsInOrder (C.moments clock.old) (C.moments clock.new);
-        }) result.0 }
-    ensures cause { Causes result.0 (failures_of reader.old) (failures_of reader.new)
-        (failures_of writer.old) (failures_of writer.new) }
-{
-    let counted = CountedGate {
-        inner: gate,
-        refusals: Refusals::new(),
-    };
-    let (served, counted, packets) = serve(rt, alloc, reader, writer, counted, id, clock);
-    let CountedGate { inner, refusals } = counted;
-    (served, inner, Tally { packets, refusals })
 }

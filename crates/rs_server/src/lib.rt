@@ -2,8 +2,7 @@
 //!
 //! [`serve`] reads the packets of one client, runs its session over a gate to the store, and writes and
 //! flushes the replies. The reader and the writer are [`Counted`], and a [`Clock`] tells the times.
-//! [`serve_counted`] does so too, and also counts what the gate refused ([`Tally`]). A [`Serving`] is such a connection
-//! for a thread that serves several.
+//! A [`CountedGate`] counts what its gate refuses. A [`Serving`] is such a connection for a thread that serves several.
 //!
 //! However the input is split into reads, the bytes written are exactly the replies of the session to the
 //! packets decoded from it; if a write or an allocation fails, a prefix of them. [`Served`] says how the
@@ -27,7 +26,7 @@ mod writing;
 pub use clock::{Clock, Moments};
 pub use connection::{ConnectionId, Served, serve};
 pub use counted::Counted;
-pub use counted_gate::{CountedGate, Refusals, Tally, serve_counted};
+pub use counted_gate::{CountedGate, Refusals, Tally};
 pub use law::inputs_law;
 pub use serving::Serving;
 pub use writing::ServeFault;

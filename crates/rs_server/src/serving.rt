@@ -34,8 +34,9 @@ const LEAST_TOGETHER: usize = 2;
 /// A connection while it is served: its session, and what was read of a packet that is not whole yet.
 ///
 /// [`serve`](crate::serve) has a thread that waits for each read. Whoever serves several connections on one thread keeps such a value for
-/// each, and lets it [`go_on`](Serving::go_on) if there is something to read. If there is for many, all are [`read`](Serving::read) first,
-/// so that their changes go to the store together, and then [`handle`](Serving::handle)d.
+/// each, [`read`](Serving::read)s those that have something to read, and then [`handle`](Serving::handle)s them. `read` announces the
+/// changes of a connection, which its gate may send to the store at once, and `handle` waits for the replies to these. So the store works
+/// on the changes of those that were read while others are read.
 #[derive(Drop)]
 pub struct Serving<G> {
     session: Session<G>,
@@ -92,7 +93,7 @@ impl<G: Gate> Serving<G> {
     /// # Errors
     ///
     /// As [`serve`](crate::serve).
-    pub fn go_on<H: Wait, R: Read, W: Write, C: Clock>(
+    pub(crate) fn go_on<H: Wait, R: Read, W: Write, C: Clock>(
         &mut self,
         rt: &H,
         alloc: Global,

@@ -1,6 +1,6 @@
 //! A gate to a store that takes no change and never has the memory to answer.
 
-ghost use Rattle.std.specs.Prelude.{◌≡◌, [], Some, true};
+ghost use Rattle.std.specs.Prelude.{◌≡◌, [], Some};
 
 use rs_message::{Found, Operation, SubmitFault};
 use rs_session::Gate;
@@ -25,7 +25,7 @@ pub const REFUSING_GATE: Refusing = Refusing {
 impl Gate for Refusing {
     ghost stands = { λ _ seen. seen ≡ [] };
 
-    ghost mark = { λ gate. record { place = 1; serial = gate.serial; alone = true; sent = Some [] } };
+    ghost mark = { λ gate. record { place = 1; serial = gate.serial; sent = Some [] } };
 
     fn has_pending(&self) -> bool {
         false

@@ -1,6 +1,6 @@
 //! What a session hands to its gate and what it then replies, for each QoS and each answer of the gate.
 
-ghost use Rattle.std.specs.Prelude.{◌≡◌, true, None, OnOk};
+ghost use Rattle.std.specs.Prelude.{◌≡◌, None, OnOk};
 ghost use Rattle.rs_session.specs.State.{due_of};
 
 use bytes::Bytes;
@@ -25,7 +25,7 @@ struct Recording {
 impl Gate for Recording {
     ghost stands = { λ _ _. ⊥ };
 
-    ghost mark = { λ _. record { place = 1; serial = 0; alone = true; sent = None } };
+    ghost mark = { λ _. record { place = 1; serial = 0; sent = None } };
 
     fn has_pending(&self) -> bool {
         false

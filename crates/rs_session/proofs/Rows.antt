@@ -37,7 +37,7 @@ use Rattle.rs_session.specs.declared.phase.Closing.TheVariants.{ByClient, ByServ
 use Rattle.rs_session.specs.declared.phase.Phase.TheVariants as phase
 use Rattle.rs_session.specs.declared.phase.Input.{Input}
 use Rattle.rs_session.specs.declared.phase.Input.TheVariants.{Whole, Broken}
-use Rattle.rs_session.specs.Gate.{Mark, Extends, Grows, GrowsAnswering, StandsAt, Uses, IsNextAtMost, IsHandedOver, SendsAtMost, entry_by}
+use Rattle.rs_session.specs.Gate.{Mark, Extends, Grows, GrowsAnswering, StandsAt, Uses, IsHandedOver, SendsAtMost, entry_by}
 use Rattle.rs_session.specs.Points.{Given, Point, given_at, point_at, with_state}
 use Rattle.rs_session.specs.Reasons.{reason_value}
 use Rattle.rs_session.specs.declared.reason.ReasonCode.{ReasonCode}
@@ -277,11 +277,6 @@ topic_unread p f effect now at e t d =
 abbrev message_of : Publish → ℕ → MessageValue
 message_of p now = record { payload = p.payload; qos = p.qos; received = now; expiry = p.expiry; properties = p.properties }
 
--- no serial is used
-none_used : (alone : Bool) (serial : ℕ) → IsNextAtMost alone serial serial
-none_used true serial = omega arith
-none_used false serial = tt
-
 -- a publication that the gate was not asked to keep
 not_handed : (p : Publish) (topic : List ℕ) (now : ℕ) (at : Point Open) → effect_before p at.state ≡ None → p.topic ≡ Ok topic → p.retain ≡ true → IsHanded p topic (change_of topic (message_of p now) p.payload) now at at
 not_handed p topic now at e t r =
@@ -290,7 +285,7 @@ not_handed p topic now at e t r =
       taken = (taken p at.state e).0;
       is_topic = t;
       changes = ap (λ (retain : Bool). operation_of retain topic (message_of p now)) r;
-      one_used = record { place = refl; alone = refl; no_lower = omega arith; no_higher = none_used at.mark.alone at.mark.serial };
+      one_used = record { place = refl; no_lower = omega arith; no_higher = omega arith };
       no_other = nothing_new operation at.mark at.seen;
       sent = inl (nothing_sent at.mark.sent);
     }

@@ -10,7 +10,7 @@ use Rattle.rs_message.specs.Values.{MessageValue, OriginValue}
 use Rattle.rs_message.specs.declared.entry.Entry.{Entry}
 use Rattle.rs_message.specs.declared.entry.Operation.{Operation}
 use Rattle.rs_store.specs.declared.content.Content.{Content}
-use Rattle.rs_message.specs.declared.entry.TheConstants.{MAX_PLACES}
+use Rattle.rs_message.specs.declared.entry.TheConstants.{MAX_LINES}
 use Rattle.rs_store.specs.Adding.{Adds, NotAdds}
 use Rattle.rs_store.specs.Contents.{IsAdded, NeedsSweep, NotAddedBy, serial_count, swept}
 use Rattle.rs_store.specs.History.{cleaned, sweep_after}
@@ -60,7 +60,7 @@ not_submitted stands before after operation old used same = λ seen s.
     (seen, subst (λ a. stands a seen) (sym same) s, ([], sym (append-nil seen)), record { handed_over = nothing_new operation used seen; submitted = tt; used = tt })
 
 -- the serial of its place is that of the entry
-serial_added : (c : Content) (e : Entry) (new : Content) → length c.serials ≡ serial_count → e.origin.place ≤ MAX_PLACES → IsAdded c e new → slice_index new.serials e.origin.place ≡ e.origin.serial
+serial_added : (c : Content) (e : Entry) (new : Content) → length c.serials ≡ serial_count → e.origin.place ≤ MAX_LINES → IsAdded c e new → slice_index new.serials e.origin.place ≡ e.origin.serial
 serial_added c e new wide small (inl a) = ap (λ (w : Content). slice_index w.serials e.origin.place) a.1 ∙ get_or-set_same c.serials e.origin.place e.origin.serial 0 (omega (arith, wide, small))
 serial_added c e new wide small (inr a) =
     let first : List ℕ = set c.serials 0 (slice_index c.serials 0 + 1) in

@@ -1,5 +1,5 @@
 -- What contracts see of the store by a session's gate.
-use Rattle.std.specs.Prelude.{◌≡◌, ℕ, ◌+◌, ◌<◌, ◌≤◌, ◌⊎◌, Bool, true, false, List, [], ◌∷◌, ◌++◌, Contains, Option, Some, None, Result, Err, OnOk}
+use Rattle.std.specs.Prelude.{◌≡◌, ℕ, ◌+◌, ◌<◌, ◌≤◌, ◌⊎◌, List, [], ◌∷◌, ◌++◌, Contains, Option, Some, None, Result, Err, OnOk}
 use Rattle.std.specs.List.{All}
 use Rattle.rs_message.specs.Values.{OriginValue}
 use Rattle.rs_message.specs.declared.entry.Entry.{Entry}
@@ -7,12 +7,10 @@ use Rattle.rs_message.specs.declared.entry.Operation.{Operation}
 use Rattle.rs_message.specs.declared.fault.SubmitFault.{SubmitFault}
 use Rattle.rs_message.specs.declared.fault.SubmitFault.TheVariants.{Open, Strange}
 
--- a place, the last serial that it used, whether no other gate uses serials of the place, and the entries that it sent to the store, in
--- their order, if they are given
+-- a place, the last serial that it used, and the entries that it sent to the store, in their order, if they are given
 pub record Mark : Type 0 where
   pub place : ℕ
   pub serial : ℕ
-  pub alone : Bool
   pub sent : Option (List Entry)
 
 -- the origin of the last entry that the gate made
@@ -42,18 +40,11 @@ Extends list seen = (more : List Entry) × (list ≡ seen ++ more)
 abbrev pub Grows : (List Entry → Type 0) → (List Entry → Type 0) → (List Entry → List Entry → Type 0) → Type 0
 Grows before after P = (seen : List Entry) → before seen → (list : List Entry) × after list × Extends list seen × P seen list
 
--- the second serial is at most the next one, if no other gate uses serials of the place
-abbrev pub IsNextAtMost : Bool → ℕ → ℕ → Type 0
-IsNextAtMost true old new = new ≤ old + 1
-IsNextAtMost false old new = Unit {0}
-
--- The place stays, and whether the gate is alone there, and at most one serial is used. If other gates use serials of the place, the new
--- one may be behind theirs.
+-- the place stays, and at most one serial is used
 pub record Uses (old new : Mark) : Type 0 where
   pub place : new.place ≡ old.place
-  pub alone : new.alone ≡ old.alone
   pub no_lower : old.serial ≤ new.serial
-  pub no_higher : IsNextAtMost old.alone old.serial new.serial
+  pub no_higher : new.serial ≤ old.serial + 1
 
 -- the list has an entry with this operation, under the new mark's serial, which was not used before, and just this entry was sent
 pub record IsSubmitted (operation : Operation) (old new : Mark) (list : List Entry) : Type 0 where

@@ -1,5 +1,5 @@
 -- What a gate with a catalogue of its own stands for.
-use Rattle.std.specs.Prelude.{◌≡◌, ◌+◌, ◌-◌, ◌^◌, ◌⊎◌, true, slice_index, None}
+use Rattle.std.specs.Prelude.{◌≡◌, ◌+◌, ◌-◌, ◌^◌, ◌⊎◌, slice_index, None}
 use Rattle.rs_message.specs.declared.entry.Entry.{Entry}
 use Rattle.rs_message.specs.declared.entry.Operation.{Operation}
 use Rattle.rs_store.specs.declared.content.Content.{Content}
@@ -9,12 +9,12 @@ use Rattle.rs_message.specs.declared.fault.SubmitFault.TheVariants.{Full, NoMemo
 use Rattle.rs_session.specs.declared.local.LocalGate.{LocalGate}
 use Rattle.rs_session.specs.Gate.{Mark}
 
-abbrev pub catalogue_of : {C : Type 0} → LocalGate C → C
+abbrev pub catalogue_of : {C M : Type 0} → LocalGate C M → C
 catalogue_of gate = gate.catalogue
 
--- it serves as place 1, which no other gate does, and keeps no list of what it sent
+-- it serves as place 1, and keeps no list of what it sent
 abbrev pub local_mark : Content → Mark
-local_mark c = record { place = 1; serial = slice_index c.serials 1; alone = true; sent = None }
+local_mark c = record { place = 1; serial = slice_index c.serials 1; sent = None }
 
 -- the next entry of place 1
 abbrev pub next_entry : Content → Operation → Entry

@@ -40,10 +40,9 @@ abbrev pub point_after : Point State → List Exchange → Point State
 point_after from [] = from
 point_after from (exchange ∷ exchanges) = point_after exchange.to exchanges
 
--- the place stays, and whether the gate is alone there, and no serial is given up
+-- the place stays, and no serial is given up
 pub record MarkGrows (old new : Mark) : Type 0 where
   pub place : new.place ≡ old.place
-  pub alone : new.alone ≡ old.alone
   pub serial : old.serial ≤ new.serial
 
 -- A retained publication that the client was told is stored: a PUBLISH with RETAIN 1 that is not one sent again, and a PUBACK

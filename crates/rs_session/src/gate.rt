@@ -19,8 +19,7 @@ pub trait Gate {
     /// The lists that it stands for.
     ghost stands: { Self → List Entry → Type 0 };
 
-    /// Its place, the last serial that it used, whether no other gate uses serials of the place, and the entries that it sent to the
-    /// store, if its type gives them.
+    /// Its place, the last serial that it used, and the entries that it sent to the store, if its type gives them.
     ghost mark: { Self → Mark };
 
     /// The changes that it was told to expect and that were not submitted since, in their order. Some of them, or all, may

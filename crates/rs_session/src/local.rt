@@ -15,7 +15,7 @@ use rs_topic::TopicFilter;
 use std::alloc::{AllocError, Global};
 
 /// The place that it serves as.
-const PLACE: u8 = 1;
+const PLACE: u16 = 1;
 
 /// A gate for a single connection, to a store of its own: a catalogue, served as place 1 with serials from 1. It stands
 /// for each list of entries that its catalogue stands for.
@@ -75,7 +75,7 @@ impl<C: Catalogue> Gate for LocalGate<C> {
         if last == u64::MAX {
             return Err(SubmitFault::Full);
         }
-        let Some(origin) = Origin::new(PLACE, last + 1) else {
+        let Some(origin) = Origin::of_line(PLACE, last + 1) else {
             return Err(SubmitFault::Full);
         };
         match self.catalogue.add(Entry { origin, operation }) {

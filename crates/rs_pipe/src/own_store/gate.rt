@@ -1,6 +1,6 @@
 //! The gate to the program's own store.
 
-ghost use Rattle.std.specs.Prelude.{◌≡◌, ◌↔◌, [], false, true, None, IfOk, IfErr, OnOk, Err};
+ghost use Rattle.std.specs.Prelude.{◌≡◌, ◌↔◌, [], false, None, IfOk, IfErr, OnOk, Err};
 ghost use Rattle.std.specs.Option.{option_map};
 ghost use Rattle.rs_message.specs.Messages.{is_sweep};
 ghost use Rattle.rs_store.specs.Contents.{IsAdded, empty};
@@ -22,7 +22,7 @@ impl OwnGate {
     pub fn new(alloc: Global) -> Result<OwnGate, AllocError>
         ensures content { IfOk result (λ gate. content_of gate ≡ empty MAX_OWN_TOPICS) }
         ensures list { IfOk result (λ gate. IsOwn (content_of gate) []) }
-        ensures mark { IfOk result (λ gate. local_mark (content_of gate) ≡ record { place = 1; serial = 0; alone = true; sent = None }) }
+        ensures mark { IfOk result (λ gate. local_mark (content_of gate) ≡ record { place = 1; serial = 0; sent = None }) }
     {
         match TopicLimit::new(MAX_OWN_TOPICS) {
             Some(limit) => Ok(OwnGate {

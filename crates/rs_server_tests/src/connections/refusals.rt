@@ -1,6 +1,6 @@
 //! What a gate refuses is counted. What a connection replies does not change by it.
 
-ghost use Rattle.std.specs.Prelude.{true, None};
+ghost use Rattle.std.specs.Prelude.{None};
 
 use rs_message::{Found, Operation, SubmitFault};
 use rs_server::{ConnectionId, Counted, CountedGate, Moments, Refusals, ServeFault, Served, serve};
@@ -41,7 +41,7 @@ impl Answering {
 impl Gate for Answering {
     ghost stands = { λ _ _. ⊥ };
 
-    ghost mark = { λ _. record { place = 1; serial = 0; alone = true; sent = None } };
+    ghost mark = { λ _. record { place = 1; serial = 0; sent = None } };
 
     fn has_pending(&self) -> bool {
         false
