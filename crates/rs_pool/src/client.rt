@@ -1,4 +1,4 @@
-//! What a pool serves.
+//! What is served.
 
 use crate::watch::Watch;
 use std::alloc::Global;
@@ -10,10 +10,11 @@ pub trait Client<H: Wait>: Sized {
     /// What its connection is read from.
     type In: Read + Send;
 
-    /// Reads, if it has a connection and waits for what comes by that. Else it is left as it is.
+    /// Reads, if it has a connection and waits for what comes by that, and sends the changes that were read to the writer. Else it is left
+    /// as it is.
     fn read(self, alloc: Global) -> Self;
 
-    /// Whether something was read that is to be handled together with what other clients sent, one after the other.
+    /// Whether changes were sent to the writer when it was read. Then its next step waits for the replies.
     fn has_changes(&self) -> bool;
 
     /// Makes its next step, which may wait. `None` if it is done.

@@ -5,13 +5,19 @@ use std::collections::VecDeque;
 use std::sync::atomic::{AtomicBool, AtomicU64, AtomicUsize, Ordering};
 use std::sync::{Condvar, Mutex, Wait};
 
-/// The numbers of the clients of a lane that were read and are to be served. Each queue has the capacity for all.
+/// The numbers of the clients that were read in a lane and are to be served. Each queue has the capacity for all clients, since those that
+/// take a connection may be read in any lane.
 #[derive(Drop)]
 struct ReadClients {
     // Those that have no changes, in their order. Each is served at once.
     alone: VecDeque<usize>,
     // Those that have changes, in their order. They are served together.
     together: VecDeque<usize>,
+    // Of these the first so many have the writer's replies, or soon will: one that was read after them was served.
+    replied: usize,
+    // How many were taken of each, to be served. They wrap.
+    taken_alone: u64,
+    taken_together: u64,
     // Whether a thread serves those that have changes.
     is_served: bool,
 }
@@ -29,6 +35,32 @@ pub(crate) struct Lane {
     needed: Condvar,
 }
 
+/// Clients that were read and wait to be served: how many were taken before them, if there are some. The number of the first would not tell
+/// whether it was served and read again meanwhile.
+#[derive(Clone, Copy)]
+pub(crate) struct Left {
+    taken: Option<u64>,
+}
+
+impl Left {
+    /// Of which so many were taken, and so many are left.
+    fn new(taken: u64, left: usize) -> Left {
+        Left {
+            taken: if left > 0 { Some(taken) } else { None },
+        }
+    }
+
+    /// None are left.
+    pub(crate) fn none() -> Left {
+        Left { taken: None }
+    }
+
+    /// Whether some were left at an earlier look, and none was taken since.
+    pub(crate) fn is_since(&self, earlier: &Left) -> bool {
+        self.taken.is_some() && self.taken == earlier.taken
+    }
+}
+
 /// How far the threads of a lane are.
 #[derive(Clone, Copy)]
 pub(crate) struct Progress {
@@ -36,10 +68,10 @@ pub(crate) struct Progress {
     pub(crate) served: u64,
     /// Whether one of them waits for clients.
     pub(crate) is_watched: bool,
-    /// Of the clients that were read and have no changes, the first.
-    pub(crate) alone: Option<usize>,
-    /// Of those that have changes, the first.
-    pub(crate) together: Option<usize>,
+    /// The clients that were read and have no changes.
+    pub(crate) alone: Left,
+    /// Those that have changes.
+    pub(crate) together: Left,
     /// How many of them sleep until they are needed.
     pub(crate) asleep: usize,
 }
@@ -51,6 +83,9 @@ impl Lane {
             read: Mutex::new(ReadClients {
                 alone: VecDeque::with_capacity(alloc, clients)?,
                 together: VecDeque::with_capacity(alloc, clients)?,
+                replied: 0,
+                taken_alone: 0,
+                taken_together: 0,
                 is_served: false,
             }),
             served: AtomicU64::new(0),
@@ -66,35 +101,55 @@ impl Lane {
         Progress {
             served: self.served.load(Ordering::SeqCst),
             is_watched: self.is_watched(),
-            alone: guard.alone.front().copied(),
-            together: guard.together.front().copied(),
+            alone: Left::new(guard.taken_alone, guard.alone.len()),
+            together: Left::new(guard.taken_together, guard.together.len()),
             asleep: self.asleep.load(Ordering::SeqCst),
         }
     }
 
-    /// This client was read, and is to be served: with others, if it has changes.
-    pub(crate) fn add<H: Wait>(&self, rt: &H, number: usize, has_changes: bool) {
+    /// This client was read, has no changes, and is to be served.
+    pub(crate) fn add_alone<H: Wait>(&self, rt: &H, number: usize) {
         let mut guard = self.read.lock(rt);
-        if has_changes {
-            let _ = guard.together.push_back(number);
-        } else {
-            let _ = guard.alone.push_back(number);
+        let _ = guard.alone.push_back(number);
+    }
+
+    /// These clients were read, in this order, have changes, and are to be served.
+    pub(crate) fn add_together<H: Wait>(&self, rt: &H, numbers: &[usize]) {
+        if numbers.is_empty() {
+            return;
+        }
+        // At once: who serves them begins with the last.
+        let mut guard = self.read.lock(rt);
+        for number in numbers {
+            let _ = guard.together.push_back(*number);
         }
     }
 
     /// The next client that has no changes.
     pub(crate) fn next_alone<H: Wait>(&self, rt: &H) -> Option<usize> {
         let mut guard = self.read.lock(rt);
-        guard.alone.pop_front()
+        let next = guard.alone.pop_front()?;
+        guard.taken_alone = guard.taken_alone.wrapping_add(1);
+        Some(next)
     }
 
     /// The next client that has changes. If there is none, the thread that asks serves such no more.
+    ///
+    /// The writer replies to the changes in the order in which the clients were read. So the last client is served first: once its replies
+    /// have come, those of all before it have too. They follow in their order, and the thread that serves them sleeps once for all.
     pub(crate) fn next_together<H: Wait>(&self, rt: &H) -> Option<usize> {
         let mut guard = self.read.lock(rt);
-        let next = guard.together.pop_front();
-        if next.is_none() {
+        if guard.together.is_empty() {
             guard.is_served = false;
+            return None;
         }
+        guard.taken_together = guard.taken_together.wrapping_add(1);
+        if guard.replied > 0 {
+            guard.replied = guard.replied.saturating_sub(1);
+            return guard.together.pop_front();
+        }
+        let next = guard.together.pop_back();
+        guard.replied = guard.together.len();
         next
     }
 

@@ -1,9 +1,9 @@
 //! What the threads share, and how they serve the clients.
 //!
 //! Each client lies in a slot while no thread serves it. One thread of its lane waits until clients of the lane have something to do, and
-//! reads them. It serves those at once that have no changes. As this may last, another thread goes on meanwhile. Those that have changes are
-//! served by one thread, one after the other, so that their changes go to the writer together. If a thread is held up, by a client that
-//! does not read or by the writer, another one goes on with those that were read.
+//! reads them, by which their changes are sent to the writer. It serves those at once that have no changes. As this may last, another
+//! thread goes on meanwhile. Those that have changes are served by one thread, one after the other, which sleeps once until the writer has
+//! replied to all. If a thread is held up, by a client that does not read or by the writer, another one goes on with those that were read.
 
 use crate::client::Client;
 use crate::lane::{Lane, Progress};
@@ -167,16 +167,12 @@ impl<C: Client<H> + Drop, H: Wait + Copy, W: Watch<C::In> + Drop> Pool<C, H, W> 
         }
     }
 
-    /// Reads the client of this number, which is then to be served. True if it has no changes.
-    fn read(&self, lane: &Lane, number: usize) -> bool {
-        let Some(client) = self.take(number) else {
-            return false;
-        };
-        let client = client.read(self.alloc);
+    /// Reads the client of this number, which is then to be served. Whether it has changes; `None` if it is not in its slot.
+    fn read(&self, number: usize) -> Option<bool> {
+        let client = self.take(number)?.read(self.alloc);
         let has_changes = client.has_changes();
         self.put(number, client);
-        lane.add(&self.rt, number, has_changes);
-        !has_changes
+        Some(has_changes)
     }
 
     /// Serves the client of this number, which was read.
@@ -215,11 +211,25 @@ impl<C: Client<H> + Drop, H: Wait + Copy, W: Watch<C::In> + Drop> Pool<C, H, W> 
     }
 
     /// Reads these clients. If some have no changes, which is the answer, it wakes a thread that goes on meanwhile.
-    fn read_all(&self, lane: &Lane, numbers: &[usize]) -> bool {
+    fn read_all(&self, lane: &Lane, numbers: &mut [usize]) -> bool {
         let mut is_any_alone = false;
-        for number in numbers {
-            is_any_alone |= self.read(lane, *number);
+        // Those that have changes are moved to the front.
+        let mut changed = 0;
+        for index in 0..numbers.len() {
+            let number = numbers[index];
+            match self.read(number) {
+                Some(true) => {
+                    numbers[changed] = number;
+                    changed += 1;
+                }
+                Some(false) => {
+                    lane.add_alone(&self.rt, number);
+                    is_any_alone = true;
+                }
+                None => {}
+            }
         }
+        lane.add_together(&self.rt, &numbers[..changed]);
         if is_any_alone {
             lane.hand_on(&self.rt);
         }
@@ -230,7 +240,7 @@ impl<C: Client<H> + Drop, H: Wait + Copy, W: Watch<C::In> + Drop> Pool<C, H, W> 
     fn read_now(&self, lane: &Lane, index: usize) -> bool {
         let mut numbers = [0usize; MOST_TOLD];
         let count = self.watch.look(index, &mut numbers);
-        self.read_all(lane, &numbers[..count])
+        self.read_all(lane, &mut numbers[..count])
     }
 
     /// Waits until clients of the lane have something to do, and reads them. False if all clients are done.
@@ -241,7 +251,7 @@ impl<C: Client<H> + Drop, H: Wait + Copy, W: Watch<C::In> + Drop> Pool<C, H, W> 
         let Some(count) = told else {
             return false;
         };
-        self.read_all(lane, &numbers[..count]);
+        self.read_all(lane, &mut numbers[..count]);
         true
     }
 

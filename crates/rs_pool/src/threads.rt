@@ -1,6 +1,7 @@
 //! The threads of the lanes: two for each, and more while those of a lane are held up.
 
 use crate::client::Client;
+use crate::lane::Left;
 use crate::pool::Pool;
 use crate::watch::Watch;
 use std::alloc::{AllocError, Global};
@@ -20,8 +21,8 @@ const LOOK: u64 = 20;
 struct Looked {
     threads: usize,
     served: u64,
-    alone: Option<usize>,
-    together: Option<usize>,
+    alone: Left,
+    together: Left,
 }
 
 /// The threads of all lanes, and how far they were.
@@ -60,8 +61,8 @@ impl<
             let _ = begun.lanes.push(Looked {
                 threads: 1,
                 served: 0,
-                alone: None,
-                together: None,
+                alone: Left::none(),
+                together: Left::none(),
             });
         }
         for lane in 0..begun.lanes.len() {
@@ -103,9 +104,9 @@ impl<
         more
     }
 
-    /// Looks at a lane. If a client was read and is not served since the last look, or none of the threads has served one since then and
-    /// none waits for clients, those that sleep are woken, and if these are fewer than are held up, so many are started that they are as
-    /// many: but no more than `most` in all.
+    /// Looks at a lane. If clients were left at the last look and none of them was taken to be served since, or if no client was served since
+    /// then and no thread waits for clients, those threads that sleep are woken. If these are fewer than are held up, more are started, until
+    /// they are as many, but no more than `most` in all.
     fn look(&mut self, lane: usize, most: usize) {
         let Some(now) = self.pool.progress(lane) else {
             return;
@@ -114,8 +115,7 @@ impl<
             return;
         };
         let threads = looked.threads;
-        let is_left = (now.alone.is_some() && now.alone == looked.alone)
-            || (now.together.is_some() && now.together == looked.together);
+        let is_left = now.alone.is_since(&looked.alone) || now.together.is_since(&looked.together);
         let is_still = !now.is_watched && now.served == looked.served;
         let mut more = 0;
         if is_left || is_still {
@@ -175,7 +175,7 @@ impl<
 /// # Errors
 ///
 /// Out of memory. No client was served.
-pub fn serve_clients<
+pub(crate) fn serve_clients<
     C: Client<H> + Send + Drop + 'static,
     H: Threads + Wait + Copy + Send + Sync + 'static,
     W: Watch<C::In> + Send + Sync + Drop + 'static,

@@ -33,3 +33,32 @@ pub trait Watch<I: Read> {
     /// Each thread that waits, and each that would, is told that it was stopped.
     fn stop(&self);
 }
+
+/// Tells nothing: for clients that each have a thread of their own. In lanes, each client would be served until it is done before the next
+/// is.
+#[derive(Clone, Copy)]
+pub struct NoWatch;
+
+impl<I: Read> Watch<I> for NoWatch {
+    fn wait<H: Wait>(&self, _rt: &H, _lane: usize, _ready: &mut [usize]) -> Option<usize> {
+        None
+    }
+
+    fn look(&self, _lane: usize, _ready: &mut [usize]) -> usize {
+        0
+    }
+
+    fn watch(&self, _lane: usize, _client: usize, _input: &I) -> bool {
+        false
+    }
+
+    fn watch_free(&self, _client: usize) -> bool {
+        false
+    }
+
+    fn write_out(&self, input: I) -> (I, bool) {
+        (input, true)
+    }
+
+    fn stop(&self) {}
+}

@@ -1,5 +1,5 @@
 mod Beginnings
-mod Dropped
+mod Closing
 mod EndCells
 mod Making
 pub mod Sent

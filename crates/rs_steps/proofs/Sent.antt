@@ -36,7 +36,7 @@ use Rattle.rs_steps.specs.contracts.stages.ServedClient as ServedClient
 use Rattle.rs_steps.specs.contracts.stages.ServedClient.TheInside as InServed
 use Rattle.rs_steps.specs.contracts.stages.Stage as Stage
 use Rattle.rs_steps.specs.contracts.task.Task as Task
-use Rattle.rs_turns.specs.declared.gates.PlaceGate as PlaceGate
+use Rattle.rs_turns.specs.declared.gates.LineGate as LineGate
 use Rattle.rs_turns.specs.declared.gates.StoreGate as StoreGate
 
 u64_send : IsSend u64
@@ -56,23 +56,23 @@ module _ (T G : RattleType) where
       ),
     )
 
-    module _ (N : RattleType) (t : Turn.Ghosts T.Denot I.Denot O.Denot C.Denot) (i : Read.Ghosts I.Denot) (o : Write.Ghosts O.Denot) (k : Clock.Ghosts C.Denot)
-        (r : PlaceGate.Ghosts G.Denot N.Denot) (p : StoreGate.Ghosts G.Denot N.Denot) (q : Gate.Ghosts G.Denot) (h : StoreName.Ghosts N.Denot) where
-      free_send : IsSend (FreeClient.the_row T G I O C N t i o k p q h)
-      free_send = view_send (InFree.the_row T G I O C N t i o k p q h) _ _ _ _
-          (recorded_send (InFree.the_field T G I O C N t i o k p q h).row _ _ (InFree.the_type T G I O C N t i o k p q h).to_one (struct_send (shape (InFree.the_type T G I O C N t i o k p q h)) (st, (sg, (u64_send, (begun_field, tt))))))
+    module _ (E N : RattleType) (se : IsSend E) (t : Turn.Ghosts T.Denot I.Denot O.Denot C.Denot) (i : Read.Ghosts I.Denot) (o : Write.Ghosts O.Denot) (k : Clock.Ghosts C.Denot)
+        (r : LineGate.Ghosts G.Denot E.Denot N.Denot) (p : StoreGate.Ghosts G.Denot N.Denot) (q : Gate.Ghosts G.Denot) (h : StoreName.Ghosts N.Denot) where
+      free_send : IsSend (FreeClient.the_row T G I O C E N t i o k r p q h)
+      free_send = view_send (InFree.the_row T G I O C E N t i o k r p q h) _ _ _ _
+          (recorded_send (InFree.the_field T G I O C E N t i o k r p q h).row _ _ (InFree.the_type T G I O C E N t i o k r p q h).to_one (struct_send (shape (InFree.the_type T G I O C E N t i o k r p q h)) (st, (sg, (u64_send, (begun_field, tt))))))
 
-      served_send : IsSend (ServedClient.the_row T G I O C N t i o k p q h)
-      served_send = view_send (InServed.the_row T G I O C N t i o k p q h) _ _ _ _
-          (recorded_send (InServed.the_field T G I O C N t i o k p q h).row _ _ (InServed.the_type T G I O C N t i o k p q h).to_one (struct_send (shape (InServed.the_type T G I O C N t i o k p q h)) (connected_field, tt)))
+      served_send : IsSend (ServedClient.the_row T G I O C E N t i o k r p q h)
+      served_send = view_send (InServed.the_row T G I O C E N t i o k r p q h) _ _ _ _
+          (recorded_send (InServed.the_field T G I O C E N t i o k r p q h).row _ _ (InServed.the_type T G I O C E N t i o k r p q h).to_one (struct_send (shape (InServed.the_type T G I O C E N t i o k r p q h)) (connected_field, tt)))
 
-      read_send : IsSend (ReadClient.the_row T G I O C N t i o k p q h)
-      read_send = view_send (InRead.the_row T G I O C N t i o k p q h) _ _ _ _
-          (recorded_send (InRead.the_field T G I O C N t i o k p q h).row _ _ (InRead.the_type T G I O C N t i o k p q h).to_one (struct_send (shape (InRead.the_type T G I O C N t i o k p q h)) (connected_field, tt)))
+      read_send : IsSend (ReadClient.the_row T G I O C E N t i o k r p q h)
+      read_send = view_send (InRead.the_row T G I O C E N t i o k r p q h) _ _ _ _
+          (recorded_send (InRead.the_field T G I O C E N t i o k r p q h).row _ _ (InRead.the_type T G I O C E N t i o k r p q h).to_one (struct_send (shape (InRead.the_type T G I O C E N t i o k r p q h)) (connected_field, tt)))
 
-      ended_send : IsSend (EndedClient.the_row T G I O C N t i o k p q h)
-      ended_send = view_send (InEnded.the_row T G I O C N t i o k p q h) _ _ _ _
-          (recorded_send (InEnded.the_field T G I O C N t i o k p q h).row _ _ (InEnded.the_type T G I O C N t i o k p q h).to_one (struct_send (shape (InEnded.the_type T G I O C N t i o k p q h)) (
+      ended_send : IsSend (EndedClient.the_row T G I O C E N t i o k r p q h)
+      ended_send = view_send (InEnded.the_row T G I O C E N t i o k r p q h) _ _ _ _
+          (recorded_send (InEnded.the_field T G I O C E N t i o k r p q h).row _ _ (InEnded.the_type T G I O C E N t i o k r p q h).to_one (struct_send (shape (InEnded.the_type T G I O C E N t i o k r p q h)) (
             st,
             (
               search (counted_gate.the_field_send, sg, sendable) depth 60 fits 20000,
@@ -83,18 +83,18 @@ module _ (T G : RattleType) where
             ),
           )))
 
-      done_send : IsSend (DoneClient.the_row T G I O C N t i o k p q h)
-      done_send = view_send (InDone.the_row T G I O C N t i o k p q h) _ _ _ _
-          (recorded_send (InDone.the_field T G I O C N t i o k p q h).row _ _ (InDone.the_type T G I O C N t i o k p q h).to_one (struct_send (shape (InDone.the_type T G I O C N t i o k p q h)) (st, (told.the_send N h, (begun_field, tt)))))
+      done_send : IsSend (DoneClient.the_row T G I O C E N t i o k r p q h)
+      done_send = view_send (InDone.the_row T G I O C E N t i o k r p q h) _ _ _ _
+          (recorded_send (InDone.the_field T G I O C E N t i o k r p q h).row _ _ (InDone.the_type T G I O C E N t i o k r p q h).to_one (struct_send (shape (InDone.the_type T G I O C E N t i o k r p q h)) (st, (told.the_send N h, (se, (begun_field, tt))))))
 
-      stage_field : IsSend (Stage.the_field T G I O C N t i o k p q h).row
+      stage_field : IsSend (Stage.the_field T G I O C E N t i o k r p q h).row
       stage_field = search (free_send, served_send, read_send, ended_send, done_send, crosses, sendable) depth 60 fits 20000
 
-      coming_send : IsSend (Coming.the_row T G I O C N t i o k p q h)
+      coming_send : IsSend (Coming.the_row T G I O C E N t i o k r p q h)
       coming_send = search (begun_field, done_send, crosses, sendable) depth 60 fits 20000
 
-      end_field : IsSend (ClientEnd.the_field T G I O C N t i o k r p q h).row
+      end_field : IsSend (ClientEnd.the_field T G I O C E N t i o k r p q h).row
       end_field = search (coming_send, begun_field, queue.the_send, queue.the_sync, pass.the_send, crosses, sendable) depth 60 fits 20000
 
-      pub task_send : IsSend (Task.the_row T G I O C N t i o k r p q h)
-      task_send = recorded_send (Task.the_field T G I O C N t i o k r p q h).row _ _ (Task.the_type T G I O C N t i o k r p q h).to_one (struct_send (shape (Task.the_type T G I O C N t i o k r p q h)) (stage_field, (end_field, tt)))
+      pub task_send : IsSend (Task.the_row T G I O C E N t i o k r p q h)
+      task_send = recorded_send (Task.the_field T G I O C E N t i o k r p q h).row _ _ (Task.the_type T G I O C E N t i o k r p q h).to_one (struct_send (shape (Task.the_type T G I O C E N t i o k r p q h)) (stage_field, (end_field, tt)))

@@ -1,7 +1,6 @@
 -- Lemmas on the steps by which a client is served.
-use Rattle.std.proofs.Common.{◌≡◌, ℕ, ◌+◌, ◌-◌, ◌^◌, List, [], Option, Some, None, Err, map, refl, sym, ap, subst, ◌∙◌}
+use Rattle.std.proofs.Common.{◌≡◌, ℕ, ◌+◌, ◌-◌, ◌^◌, List, [], Option, Some, Err, refl, sym, ap, subst, ◌∙◌}
 use Rattle.std.specs.Prelude.{min, Result}
-use Rattle.std.proofs.lemmas.List.{append-nil}
 use Rattle.rs_queue.specs.declared.job.TheConstants.{MAX_CHANGES}
 use Rattle.rs_message.specs.declared.entry.Entry.{Entry}
 use Rattle.rs_message.specs.declared.entry.Operation.{Operation}
@@ -9,7 +8,7 @@ use Rattle.rs_store.specs.History.{IsLegal}
 use Rattle.rs_session.specs.Gate.{Mark}
 use Rattle.rs_session.specs.Points.{Point}
 use Rattle.rs_session.specs.State.{State, gate_of as session_gate}
-use Rattle.rs_server.specs.Conversation.{Causes, GateView, IsConnection, assigned_of, start}
+use Rattle.rs_server.specs.Conversation.{Causes, GateView, IsConnection, assigned_of, gate_view, start}
 use Rattle.rs_server.specs.Counts.{failures_of, inner_of}
 use Rattle.rs_server.specs.Refusals.{gate_of}
 use Rattle.rs_server.specs.Serving.{CausesEnd, IsRead, IsUnderway, session_of, transfer_from}
@@ -20,14 +19,14 @@ use Rattle.rs_server.specs.declared.serving.Serving.{Serving}
 use Rattle.rs_server.specs.declared.writing.ServeFault.{ServeFault}
 use Rattle.rs_server.specs.declared.writing.ServeFault.TheVariants.{NoMemory}
 use Rattle.rs_server.proofs.Goings.{none_served}
-use Rattle.rs_turns.specs.Visits.{AreConnectionsServed, Place, ServedSoFar, ServesOne, Visit, next_number, place_at, transfer_of}
-use Rattle.rs_turns.specs.Shared.{Knows, SharedValue}
-use Rattle.rs_turns.specs.Turns.{Connections, Ending, GivesNext, Streams, TakesBack, TookBack}
-use Rattle.rs_turns.proofs.ServedAt.{served_at}
-use Rattle.rs_turns.proofs.Visits.{all_given, served_more, took_more}
-use Rattle.rs_steps.specs.Served.{Client, IsClientServed}
+use Rattle.rs_turns.specs.Visits.{IsConnectionServed, Place, ServedSoFar, ServesOne, Visit, next_number, place_at, transfer_of}
+use Rattle.rs_turns.specs.Ended.{HasEnded}
+use Rattle.rs_turns.specs.Shared.{HandsOn, Knows, SharedValue, operations_of}
+use Rattle.rs_turns.specs.Turns.{Connections, Ending, GivesNext, Streams, TakesBack}
+use Rattle.rs_turns.proofs.HandedBack.{has_ended}
+use Rattle.rs_turns.proofs.ServedAt.{seen_as_shared, served_at}
+use Rattle.rs_turns.proofs.Visits.{served_more}
 use Rattle.rs_steps.specs.Steps.{IsBeingServed, WasRead, WasServed, counted_view}
-use Rattle.rs_steps.proofs.Dropped.{hands_nothing_on, idle, served_idle, view_of}
 
 abbrev streams : Option (List ℕ) → Option (List ℕ) → Option (ℕ → ℕ) → Streams
 streams unread written moments = record { unread = unread; written = written; moments = moments }
@@ -36,8 +35,8 @@ streams unread written moments = record { unread = unread; written = written; mo
 pub begins : {R W G : Type 0} (remaining : R → Option (List ℕ)) (contents : W → Option (List ℕ)) (moments : Option (ℕ → ℕ))
     (stands : G → List Entry → Type 0) (mark : G → Mark) (pending : G → List Operation) (shared : G → SharedValue) (limit most : ℕ)
     → ((gate : G) (list : List Entry) → Knows limit (shared gate) list → stands gate list) → ((gate : G) → (shared gate).mark ≡ mark gate) → ((gate : G) → (shared gate).pending ≡ pending gate)
-    → (begun : Client) (number place : ℕ) (own : G) (old connections : Connections) (input : R) (output : W) (reader : Counted R) (writer : Counted W) (counted : CountedGate G) (serving : Serving (CountedGate G))
-    → ServedSoFar limit begun.first begun.place number (place_at old (shared own)) → GivesNext old (Some (streams (remaining input) (contents output) moments)) connections
+    → (begun : Place) (number place : ℕ) (own : G) (old connections : Connections) (input : R) (output : W) (reader : Counted R) (writer : Counted W) (counted : CountedGate G) (serving : Serving (CountedGate G))
+    → ServedSoFar limit begun number (place_at old (shared own)) → GivesNext old (Some (streams (remaining input) (contents output) moments)) connections
     → inner_of reader ≡ input → inner_of writer ≡ output → gate_of counted ≡ own → place ≡ (shared own).mark.place → IsLegal limit (shared own).known
     → ((seen : List Entry) (unread written : Option (List ℕ)) (told : Option (ℕ → ℕ)) → stands (gate_of counted) seen
     → IsUnderway (start (assigned_of place number) seen (mark (gate_of counted))) (pending (gate_of counted)) most (counted_view stands mark pending) (transfer_from unread unread written written told told) serving)
@@ -67,8 +66,8 @@ begins {R} {W} {G} remaining contents moments stands mark pending shared limit m
 pub refused : {R W G : Type 0} (remaining : R → Option (List ℕ)) (contents : W → Option (List ℕ)) (moments : Option (ℕ → ℕ))
     (stands : G → List Entry → Type 0) (mark : G → Mark) (pending : G → List Operation) (shared : G → SharedValue) (limit most : ℕ)
     → ((gate : G) (list : List Entry) → Knows limit (shared gate) list → stands gate list) → ((gate : G) → (shared gate).mark ≡ mark gate) → ((gate : G) → (shared gate).pending ≡ pending gate)
-    → (begun : Client) (number : ℕ) (own : G) (old connections : Connections) (input : R) (output : W) (reader : Counted R) (writer : Counted W) (counted same : CountedGate G)
-    → ServedSoFar limit begun.first begun.place number (place_at old (shared own)) → GivesNext old (Some (streams (remaining input) (contents output) moments)) connections
+    → (begun : Place) (number : ℕ) (own : G) (old connections : Connections) (input : R) (output : W) (reader : Counted R) (writer : Counted W) (counted same : CountedGate G)
+    → ServedSoFar limit begun number (place_at old (shared own)) → GivesNext old (Some (streams (remaining input) (contents output) moments)) connections
     → inner_of reader ≡ input → inner_of writer ≡ output → gate_of counted ≡ own → same ≡ counted → IsLegal limit (shared own).known
     → failures_of reader ≡ 0 → failures_of writer ≡ 0
     → WasServed limit most begun number connections (streams (remaining (inner_of reader)) (contents (inner_of writer)) moments) (counted_view stands mark pending same) (Err NoMemory) (failures_of reader) (failures_of writer)
@@ -95,7 +94,7 @@ refused {R} {W} {G} remaining contents moments stands mark pending shared limit 
     }
 
 -- it was read
-pub was_read : {G : Type 0} (limit most : ℕ) (view : CountedGate G → GateView) (begun : Client) (number : ℕ) (connections : Connections) (rest left more : Option (List ℕ)) (moments later : Option (ℕ → ℕ)) (serving after : Serving (CountedGate G))
+pub was_read : {G : Type 0} (limit most : ℕ) (view : CountedGate G → GateView) (begun : Place) (number : ℕ) (connections : Connections) (rest left more : Option (List ℕ)) (moments later : Option (ℕ → ℕ)) (serving after : Serving (CountedGate G))
     → IsBeingServed limit most view begun number connections (streams rest more moments) serving
     → ((from : Point State) (first : List Operation) (unread written wrote : Option (List ℕ)) (told : Option (ℕ → ℕ)) → IsUnderway from first most view (transfer_from unread rest written wrote told moments) serving
     → IsRead from first most view (transfer_from unread left written wrote told later) after)
@@ -114,7 +113,7 @@ from_none end read_before read_after write_before write_after none_read none_wri
     subst (λ (n : ℕ). Causes end 0 read_after n write_after) none_written (subst (λ (n : ℕ). Causes end n read_after write_before write_after) none_read cause)
 
 -- it was read, and ended so
-pub ended_read : {G : Type 0} (limit most : ℕ) (view : CountedGate G → GateView) (begun : Client) (number : ℕ) (connections : Connections) (rest left more : Option (List ℕ)) (moments later : Option (ℕ → ℕ)) (serving after : Serving (CountedGate G))
+pub ended_read : {G : Type 0} (limit most : ℕ) (view : CountedGate G → GateView) (begun : Place) (number : ℕ) (connections : Connections) (rest left more : Option (List ℕ)) (moments later : Option (ℕ → ℕ)) (serving after : Serving (CountedGate G))
     (end : Result Served ServeFault) (read_before read_after failures : ℕ)
     → IsBeingServed limit most view begun number connections (streams rest more moments) serving
     → ((from : Point State) (first : List Operation) (unread written wrote : Option (List ℕ)) (told : Option (ℕ → ℕ)) → IsUnderway from first most view (transfer_from unread rest written wrote told moments) serving
@@ -130,7 +129,7 @@ ended_read {G} limit most view begun number connections rest left more moments l
     }
 
 -- all that was read is handled
-pub was_handled : {G : Type 0} (limit most : ℕ) (view : CountedGate G → GateView) (begun : Client) (number : ℕ) (connections : Connections) (rest wrote more : Option (List ℕ)) (moments later : Option (ℕ → ℕ)) (serving after : Serving (CountedGate G))
+pub was_handled : {G : Type 0} (limit most : ℕ) (view : CountedGate G → GateView) (begun : Place) (number : ℕ) (connections : Connections) (rest wrote more : Option (List ℕ)) (moments later : Option (ℕ → ℕ)) (serving after : Serving (CountedGate G))
     → WasRead limit most view begun number connections (streams rest wrote moments) serving
     → ((from : Point State) (first : List Operation) (unread left written : Option (List ℕ)) (told : Option (ℕ → ℕ)) → IsRead from first most view (transfer_from unread left written wrote told moments) serving
     → IsUnderway from first most view (transfer_from unread left written more told later) after)
@@ -143,7 +142,7 @@ was_handled {G} limit most view begun number connections rest wrote more moments
     }
 
 -- it was handled, and ended so
-pub ended_handled : {G : Type 0} (limit most : ℕ) (view : CountedGate G → GateView) (begun : Client) (number : ℕ) (connections : Connections) (rest wrote more : Option (List ℕ)) (moments later : Option (ℕ → ℕ)) (serving after : Serving (CountedGate G))
+pub ended_handled : {G : Type 0} (limit most : ℕ) (view : CountedGate G → GateView) (begun : Place) (number : ℕ) (connections : Connections) (rest wrote more : Option (List ℕ)) (moments later : Option (ℕ → ℕ)) (serving after : Serving (CountedGate G))
     (end : Result Served ServeFault) (failures write_before write_after : ℕ)
     → WasRead limit most view begun number connections (streams rest wrote moments) serving
     → ((from : Point State) (first : List Operation) (unread left written : Option (List ℕ)) (told : Option (ℕ → ℕ)) → IsRead from first most view (transfer_from unread left written wrote told moments) serving
@@ -159,56 +158,69 @@ ended_handled {G} limit most view begun number connections rest wrote more momen
     }
 
 -- the connection ended over this gate
-pub served_by : {G : Type 0} (limit most : ℕ) (view : CountedGate G → GateView) (begun : Client) (number : ℕ) (connections : Connections) (now : Streams) (gate own : CountedGate G) (end : Result Served ServeFault) (read_failures write_failures : ℕ)
+pub served_by : {G : Type 0} (limit most : ℕ) (view : CountedGate G → GateView) (begun : Place) (number : ℕ) (connections : Connections) (now : Streams) (gate own : CountedGate G) (end : Result Served ServeFault) (read_failures write_failures : ℕ)
     → WasServed limit most begun number connections now (view own) end read_failures write_failures → gate ≡ own → WasServed limit most begun number connections now (view gate) end read_failures write_failures
 served_by {G} limit most view begun number connections now gate own end read_failures write_failures h is =
     let before = h.next.before.gate in
     let U : CountedGate G → Type 0 = λ g. IsConnection (start (assigned_of before.mark.place number) before.known before.mark) before.pending most (view g) (transfer_of h.next.given now) end in
     record { next = h.next; connection = subst U (sym is) h.connection; cause = h.cause }
 
--- the turn took the connection back
-pub given_back : {G : Type 0} (stands : G → List Entry → Type 0) (mark : G → Mark) (pending : G → List Operation) (shared : G → SharedValue) (limit most : ℕ)
-    → ((gate : G) (list : List Entry) → stands gate list → Knows limit (shared gate) list) → ((gate : G) → (shared gate).mark ≡ mark gate) → most ≡ MAX_CHANGES
-    → (begun : Client) (number next : ℕ) (old new : Connections) (now : Streams) (counted : CountedGate G) (gate : G) (handed : SharedValue) (result : Result Served ServeFault) (read_failures write_failures : ℕ)
-    → WasServed limit most begun number old now (counted_view stands mark pending counted) result read_failures write_failures
-    → gate ≡ gate_of counted → handed.known ≡ (shared gate).known → handed.mark ≡ (shared gate).mark → handed.pending ≡ []
-    → TakesBack old (record { streams = now; read_failures = read_failures; write_failures = write_failures; result = result }) new
-    → next ≡ min (number + 1) (2 ^ 64 - 1)
-    → ServedSoFar limit begun.first begun.place next (place_at new handed)
-given_back {G} stands mark pending shared limit most knows same_mark same_most begun number next old new now counted gate handed result read_failures write_failures h gate_is known_is mark_is none taken next_is =
+-- The connection that was served, over these streams, before which the gate was as it was then. It ended so, and the gate was handed on.
+pub record Handed (limit number : ℕ) (before : SharedValue) (given : Streams) (ending : Ending) (handed : SharedValue) : Type 0 where
+  pub visit : Visit
+  pub served : IsConnectionServed limit number before visit
+  pub over : visit.given ≡ given
+  pub ends : visit.ending ≡ ending
+  pub leaves : visit.gate ≡ handed
+
+-- the gate was handed on
+pub handed_on : {G : Type 0} (stands : G → List Entry → Type 0) (mark : G → Mark) (pending : G → List Operation) (shared : G → SharedValue) (limit most : ℕ)
+    → ((gate : G) (list : List Entry) → stands gate list → Knows limit (shared gate) list) → ((gate : G) → (shared gate).mark ≡ mark gate) → ((gate : G) → (shared gate).pending ≡ pending gate) → most ≡ MAX_CHANGES
+    → (begun : Place) (number : ℕ) (old : Connections) (now : Streams) (counted : CountedGate G) (gate : G) (handed : SharedValue) (result : Result Served ServeFault) (read_failures write_failures : ℕ)
+    → (h : WasServed limit most begun number old now (counted_view stands mark pending counted) result read_failures write_failures)
+    → gate ≡ gate_of counted → handed.known ≡ (shared gate).known → ((tail : List Entry) × HandsOn (shared gate).mark tail handed.mark × (operations_of tail ≡ (shared gate).pending)) → handed.pending ≡ []
+    → Handed limit number h.next.before.gate h.next.given (record { streams = now; read_failures = read_failures; write_failures = write_failures; result = result }) handed
+handed_on {G} stands mark pending shared limit most knows same_mark same_pending same_most begun number old now counted gate handed result read_failures write_failures h gate_is known_is (tail, hands_on, tail_is) none =
     let before = h.next.before in
     let given = h.next.given in
     let from : Point State = start (assigned_of before.gate.mark.place number) before.gate.known before.gate.mark in
-    let U : ℕ → G → Type 0 = λ n g. IsConnection from before.gate.pending n (view_of limit (idle (shared g))) (transfer_of given now) result in
-    let own : U most (gate_of counted) = served_idle stands mark pending shared limit most knows same_mark from before.gate.pending counted (transfer_of given now) result h.connection in
+    let U : ℕ → G → Type 0 =
+    λ n g. IsConnection from before.gate.pending n (gate_view (Knows limit) (λ (v : SharedValue). v.mark) (λ (v : SharedValue). v.pending) (shared g)) (transfer_of given now) result in
+    let own : U most (gate_of counted) =
+    seen_as_shared (λ (it : CountedGate G). stands (gate_of it)) (λ (it : CountedGate G). mark (gate_of it)) (λ (it : CountedGate G). pending (gate_of it)) (λ (it : CountedGate G). shared (gate_of it)) limit most
+    (λ it list. knows (gate_of it) list) (λ it. same_mark (gate_of it)) (λ it. same_pending (gate_of it)) from before.gate.pending counted (transfer_of given now) result h.connection in
     let connection : U MAX_CHANGES gate = subst (λ (g : G). U MAX_CHANGES g) (sym gate_is) (subst (λ (n : ℕ). U n (gate_of counted)) same_most own) in
-    let served = served_at limit number before.gate.mark.place before.gate (idle (shared gate)) handed (transfer_of given now) result [] refl
-    connection known_is (hands_nothing_on (shared gate).mark handed.mark mark_is) refl none in
+    let served = served_at limit number before.gate.mark.place before.gate (shared gate) handed (transfer_of given now) result tail refl connection known_is hands_on tail_is none in
     let ending : Ending = record { streams = now; read_failures = read_failures; write_failures = write_failures; result = result } in
-    let one : ServesOne limit number (place_at old before.gate) given (place_at new handed) = record {
+    record {
       visit = record { given = given; ending = ending; exchanges = served.exchanges; planned = served.planned; gate = handed };
       served = record { connection = served; exchanges = refl; planned = refl; cause = h.cause };
       over = refl;
+      ends = refl;
       leaves = refl;
-      taken_back = taken;
-    } in
-    let more : ServedSoFar limit begun.first begun.place (next_number number) (place_at new handed) =
-    served_more limit begun.first number begun.place before (place_at new handed) old given h.next.so_far h.next.gives one in
-    subst (λ (n : ℕ). ServedSoFar limit begun.first begun.place n (place_at new handed)) (sym next_is) more
-
--- a client of a place, once its turn has no more connections
-pub client_served : (limit begin number : ℕ) (first now : Place) (connections : Connections) (told : List Entry) → ServedSoFar limit begin first number now → GivesNext now.connections None connections → told ≡ now.gate.known
-    → IsClientServed limit begin first (record { connections = connections; told = told })
-client_served limit begin number first now connections told so_far next told_is =
-    let P : List Visit → Type 0 = λ l. AreConnectionsServed limit begin first.gate l now.gate in
-    let Q : List Ending → Type 0 = λ l. TookBack first.connections.ended l connections.ended in
-    record {
-      visits = so_far.visits;
-      last = now.gate;
-      connections = subst P (append-nil so_far.visits) (so_far.extends [] now.gate refl);
-      all = all_given first.connections.waiting now.connections.waiting (map (λ (v : Visit). v.given) so_far.visits) so_far.given next.waiting;
-      ended = subst Q (append-nil (map (λ (v : Visit). v.ending) so_far.visits))
-          (took_more first.connections.ended now.connections.ended connections.ended (map (λ (v : Visit). v.ending) so_far.visits) [] so_far.ended next.ended);
-      told = told_is;
-      place = so_far.place;
     }
+
+-- so all is known of it
+pub ended_known : (limit number place : ℕ) (before : SharedValue) (given : Streams) (ending : Ending) (handed : SharedValue) (told : List Entry) → Handed limit number before given ending handed
+    → place ≡ handed.mark.place → told ≡ handed.known → HasEnded limit place number ending told
+ended_known limit number place before given ending handed told h place_is told_is =
+    has_ended limit place number before h.visit ending told h.served (place_is ∙ ap (λ (g : SharedValue). g.mark.place) (sym h.leaves)) (sym h.ends) (told_is ∙ ap (λ (g : SharedValue). g.known) (sym h.leaves))
+
+-- and the turn took it back
+pub given_back : (limit : ℕ) (begun before : Place) (number next : ℕ) (given : Streams) (old new : Connections) (ending taken : Ending) (handed : SharedValue)
+    → ServedSoFar limit begun number before → GivesNext before.connections (Some given) old
+    → Handed limit number before.gate given ending handed
+    → taken ≡ ending → TakesBack old taken new
+    → next ≡ min (number + 1) (2 ^ 64 - 1)
+    → ServedSoFar limit begun next (place_at new handed)
+given_back limit begun before number next given old new ending taken handed so_far gives h taken_is takes next_is =
+    let T : Ending → Type 0 = λ e. TakesBack old e new in
+    let one : ServesOne limit number (place_at old before.gate) given (place_at new handed) = record {
+      visit = h.visit;
+      served = h.served;
+      over = h.over;
+      leaves = h.leaves;
+      taken_back = subst T (taken_is ∙ sym h.ends) takes;
+    } in
+    let more : ServedSoFar limit begun (next_number number) (place_at new handed) = served_more limit number begun before (place_at new handed) old given so_far gives one in
+    subst (λ (n : ℕ). ServedSoFar limit begun n (place_at new handed)) (sym next_is) more

@@ -8,7 +8,7 @@ use Rattle.rs_steps.specs.declared.end_cell.Coming.{Coming}
 use Rattle.rs_steps.specs.declared.end_cell.Coming.TheVariants as coming
 
 -- what the client began with, of which this is the end or the beginning
-abbrev pub begun_in : {T G I O C N : Type 0} → Coming T G I O C N → Begun T G
+abbrev pub begun_in : {T G I O C E N : Type 0} → Coming T G I O C E N → Begun T G
 begun_in (coming.Begun begun) = begun
 begun_in (coming.Done begun) = begun
 

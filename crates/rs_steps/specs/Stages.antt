@@ -3,7 +3,7 @@ use Rattle.rs_steps.specs.declared.begun.Begun.{Begun}
 use Rattle.rs_steps.specs.declared.stages.Stage.{Stage}
 use Rattle.rs_steps.specs.declared.stages.Stage.TheVariants.{Free, Served, Read, Ended, Done}
 
-abbrev pub begun_of : {T G I O C N : Type 0} → Stage T G I O C N → Begun T G
+abbrev pub begun_of : {T G I O C E N : Type 0} → Stage T G I O C E N → Begun T G
 begun_of (Free begun) = begun
 begun_of (Served begun) = begun
 begun_of (Read begun) = begun
@@ -11,7 +11,7 @@ begun_of (Ended begun) = begun
 begun_of (Done begun) = begun
 
 -- the step that takes its next connection brings it here: it is served, memory was refused for that, or there is no connection more
-abbrev pub IsNext : {T G I O C N : Type 0} → Stage T G I O C N → Type 0
+abbrev pub IsNext : {T G I O C E N : Type 0} → Stage T G I O C E N → Type 0
 IsNext (Free begun) = ⊥
 IsNext (Served begun) = Unit {0}
 IsNext (Read begun) = ⊥
@@ -19,7 +19,7 @@ IsNext (Ended begun) = Unit {0}
 IsNext (Done begun) = Unit {0}
 
 -- the step that reads brings it here: something was read, or its connection has ended
-abbrev pub IsReadOrEnded : {T G I O C N : Type 0} → Stage T G I O C N → Type 0
+abbrev pub IsReadOrEnded : {T G I O C E N : Type 0} → Stage T G I O C E N → Type 0
 IsReadOrEnded (Free begun) = ⊥
 IsReadOrEnded (Served begun) = ⊥
 IsReadOrEnded (Read begun) = Unit {0}
@@ -27,7 +27,7 @@ IsReadOrEnded (Ended begun) = Unit {0}
 IsReadOrEnded (Done begun) = ⊥
 
 -- the step that handles brings it here: it is served further, or its connection has ended
-abbrev pub IsServedOrEnded : {T G I O C N : Type 0} → Stage T G I O C N → Type 0
+abbrev pub IsServedOrEnded : {T G I O C E N : Type 0} → Stage T G I O C E N → Type 0
 IsServedOrEnded (Free begun) = ⊥
 IsServedOrEnded (Served begun) = Unit {0}
 IsServedOrEnded (Read begun) = ⊥

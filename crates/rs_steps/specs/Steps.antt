@@ -1,4 +1,4 @@
--- A client of a store whose places clients share, between two of the steps by which it is served.
+-- A client of a store, between two of the steps by which it is served.
 use Rattle.std.specs.Prelude.{ℕ, Some, List, Result}
 use Rattle.rs_message.specs.declared.entry.Entry.{Entry}
 use Rattle.rs_message.specs.declared.entry.Operation.{Operation}
@@ -12,7 +12,6 @@ use Rattle.rs_server.specs.declared.serving.Serving.{Serving}
 use Rattle.rs_server.specs.declared.writing.ServeFault.{ServeFault}
 use Rattle.rs_turns.specs.Visits.{Place, ServedSoFar, transfer_of}
 use Rattle.rs_turns.specs.Turns.{Connections, GivesNext, Streams}
-use Rattle.rs_steps.specs.Served.{Client}
 
 -- what contracts see of a client's gate that counts what it refuses
 abbrev pub counted_view : {G : Type 0} → (G → List Entry → Type 0) → (G → Mark) → (G → List Operation) → CountedGate G → GateView
@@ -20,28 +19,28 @@ counted_view {G} stands mark pending = gate_view (λ (it : CountedGate G). stand
     (λ (it : CountedGate G). pending (gate_of it))
 
 -- After the connections that were served so far, the turn gave the next one.
-pub record HasNext (limit : ℕ) (begun : Client) (number : ℕ) (connections : Connections) : Type 0 where
+pub record HasNext (limit : ℕ) (begun : Place) (number : ℕ) (connections : Connections) : Type 0 where
   pub before : Place
   pub given : Streams
-  pub so_far : ServedSoFar limit begun.first begun.place number before
+  pub so_far : ServedSoFar limit begun number before
   pub gives : GivesNext before.connections (Some given) connections
 
 -- It is served over these streams by now, and all that was whole is handled.
-pub record IsBeingServed {G : Type 0} (limit most : ℕ) (view : CountedGate G → GateView) (begun : Client) (number : ℕ) (connections : Connections)
+pub record IsBeingServed {G : Type 0} (limit most : ℕ) (view : CountedGate G → GateView) (begun : Place) (number : ℕ) (connections : Connections)
     (now : Streams) (serving : Serving (CountedGate G)) : Type 0 where
   pub next : HasNext limit begun number connections
   pub underway : IsUnderway (start (assigned_of next.before.gate.mark.place number) next.before.gate.known next.before.gate.mark)
       next.before.gate.pending most view (transfer_of next.given now) serving
 
 -- It is served over these streams by now. What was read last need not be handled yet.
-pub record WasRead {G : Type 0} (limit most : ℕ) (view : CountedGate G → GateView) (begun : Client) (number : ℕ) (connections : Connections)
+pub record WasRead {G : Type 0} (limit most : ℕ) (view : CountedGate G → GateView) (begun : Place) (number : ℕ) (connections : Connections)
     (now : Streams) (serving : Serving (CountedGate G)) : Type 0 where
   pub next : HasNext limit begun number connections
   pub read : IsRead (start (assigned_of next.before.gate.mark.place number) next.before.gate.known next.before.gate.mark)
       next.before.gate.pending most view (transfer_of next.given now) serving
 
 -- It was served over these streams, and that ended so.
-pub record WasServed (limit most : ℕ) (begun : Client) (number : ℕ) (connections : Connections) (now : Streams) (gate : GateView)
+pub record WasServed (limit most : ℕ) (begun : Place) (number : ℕ) (connections : Connections) (now : Streams) (gate : GateView)
     (result : Result Served ServeFault) (read_failures write_failures : ℕ) : Type 0 where
   pub next : HasNext limit begun number connections
   pub connection : IsConnection (start (assigned_of next.before.gate.mark.place number) next.before.gate.known next.before.gate.mark)

@@ -4,8 +4,8 @@ ghost use Rattle.std.specs.Prelude.{◌≡◌};
 ghost use Rattle.rs_session.specs.State.{gate_of};
 ghost use Rattle.rs_server.specs.Counts.{failures_of, inner_of};
 ghost use Rattle.rs_server.specs.Serving.{session_of};
-ghost use Rattle.rs_steps.specs.Begins.{client_of};
-ghost use Rattle.rs_steps.specs.Served.{IsTurnServed, client_left};
+ghost use Rattle.rs_turns.specs.Places.{IsPlaceServed, left_at};
+ghost use Rattle.rs_steps.specs.Begins.{place_of};
 ghost use Rattle.rs_steps.specs.Steps.{WasServed, counted_view};
 ghost use Rattle.rs_steps.specs.Stages.{IsNext, IsReadOrEnded, IsServedOrEnded, begun_of};
 
@@ -15,27 +15,27 @@ use crate::stages::{
 };
 use rs_pool::Watch;
 use rs_server::{ConnectionId, Counted, CountedGate, ServeFault, Served, Serving, Tally};
-use rs_turns::{Connection, PlaceGate, Turn, TurnEnd};
+use rs_turns::{Connection, EndedConnection, LineGate, PlaceEnd, Turn};
 use std::alloc::Global;
 use std::sync::Wait;
 
-impl<T: Turn + Drop, G: PlaceGate + Drop> FreeClient<T, G> {
-    /// A client of this turn, whose first connection has this number.
-    pub(crate) fn new(turn: T, gate: G, first: u64) -> FreeClient<T, G>
+impl<T: Turn + Drop, G: LineGate + Drop> FreeClient<T, G> {
+    /// A client of this turn and this gate. Its connections are numbered from 1 on.
+    pub(crate) fn new(turn: T, gate: G) -> FreeClient<T, G>
         ensures turn { result.turn.value ≡ turn }
         ensures gate { result.gate.value ≡ gate }
-        ensures first { result.first ≡ first }
     {
-        let begun = Begun::new(&turn, &gate, first);
+        let begun = Begun::new(&turn, &gate);
         FreeClient {
             turn,
             gate,
-            number: first,
+            number: 1,
             begun,
         }
     }
 
-    /// Takes the turn's next connection, and waits for it. If memory is refused, the connection ends at once.
+    /// Takes the turn's next connection, and waits for it. If memory is refused, the connection ends at once. If there is none, the gate is
+    /// closed.
     pub(crate) fn next(self, alloc: Global) -> Stage<T, G>
         ensures same { begun_of result ≡ self }
         ensures follows { IsNext result }
@@ -48,7 +48,13 @@ impl<T: Turn + Drop, G: PlaceGate + Drop> FreeClient<T, G> {
         } = self;
         let Some(connection) = turn.next() else {
             let told = gate.told();
-            return Stage::Done(DoneClient { turn, told, begun });
+            let line = gate.close();
+            return Stage::Done(DoneClient {
+                turn,
+                told,
+                line,
+                begun,
+            });
         };
         let Connection {
             input,
@@ -95,10 +101,10 @@ impl<T: Turn + Drop, G: PlaceGate + Drop> FreeClient<T, G> {
     }
 }
 
-impl<T: Turn + Drop, G: PlaceGate + Drop> Connected<T, G> {
+impl<T: Turn + Drop, G: LineGate + Drop> Connected<T, G> {
     /// Its connection has ended so.
     fn end(self, ended: Result<Served, ServeFault>) -> EndedClient<T, G>
-        requires { WasServed G.Name.limit G.most (client_of T.connections G.shared self.begun) self.number (T.connections self.turn)
+        requires { WasServed G.Name.limit G.most (place_of T.connections G.shared self.begun) self.number (T.connections self.turn)
             (record {
               unread = T.In.remaining (inner_of self.input);
               written = T.Out.contents (inner_of self.output);
@@ -132,7 +138,7 @@ impl<T: Turn + Drop, G: PlaceGate + Drop> Connected<T, G> {
     }
 }
 
-impl<T: Turn + Drop, G: PlaceGate + Drop> ServedClient<T, G> {
+impl<T: Turn + Drop, G: LineGate + Drop> ServedClient<T, G> {
     /// What its connection is read from.
     pub(crate) fn input(&self) -> &T::In {
         self.on.input.inner()
@@ -164,7 +170,7 @@ impl<T: Turn + Drop, G: PlaceGate + Drop> ServedClient<T, G> {
         (ServedClient { on }, is_written)
     }
 
-    /// Reads once, and announces the changes of what is whole then that may be announced.
+    /// Reads once, and announces the changes of what is whole then.
     pub(crate) fn read(self, alloc: Global) -> Stage<T, G>
         ensures same { begun_of result ≡ self }
         ensures follows { IsReadOrEnded result }
@@ -177,7 +183,7 @@ impl<T: Turn + Drop, G: PlaceGate + Drop> ServedClient<T, G> {
     }
 }
 
-impl<T: Turn + Drop, G: PlaceGate + Drop> ReadClient<T, G> {
+impl<T: Turn + Drop, G: LineGate + Drop> ReadClient<T, G> {
     /// Whether changes of what was read were announced, and are not submitted yet.
     pub(crate) fn has_pending(&self) -> bool {
         self.on.serving.has_pending()
@@ -196,8 +202,8 @@ impl<T: Turn + Drop, G: PlaceGate + Drop> ReadClient<T, G> {
     }
 }
 
-impl<T: Turn + Drop, G: PlaceGate + Drop> EndedClient<T, G> {
-    /// Gives the connection back to the turn, with how it ended.
+impl<T: Turn + Drop, G: LineGate + Drop> EndedClient<T, G> {
+    /// Hands the gate on, and gives the connection back to the turn, with all that is known of it.
     pub(crate) fn give_back(self) -> FreeClient<T, G>
         ensures { result ≡ self }
     {
@@ -212,7 +218,14 @@ impl<T: Turn + Drop, G: PlaceGate + Drop> EndedClient<T, G> {
         } = self;
         let (mut gate, refusals) = gate.into_parts();
         gate.hand_on();
-        turn.end(connection, result, Tally { packets, refusals });
+        let line = gate.place();
+        turn.end(EndedConnection {
+            connection,
+            served: result,
+            tally: Tally { packets, refusals },
+            place: line,
+            number,
+        });
         FreeClient {
             turn,
             gate,
@@ -222,16 +235,18 @@ impl<T: Turn + Drop, G: PlaceGate + Drop> EndedClient<T, G> {
     }
 }
 
-impl<T: Turn + Drop, G: PlaceGate + Drop> DoneClient<T, G> {
+impl<T: Turn + Drop, G: LineGate + Drop> DoneClient<T, G> {
     /// What is left of it.
-    pub(crate) fn into_end(self) -> TurnEnd<G::Name, T>
-        ensures { IsTurnServed G.Name.limit (client_of T.connections G.shared self) (client_left (T.connections result.turn) result.told) }
+    pub(crate) fn into_end(self) -> PlaceEnd<G::Name, G::End, T>
+        ensures { IsPlaceServed G.Name.limit (place_of T.connections G.shared self)
+            (left_at (T.connections result.turn) result.told (G.closed result.line)) }
     {
         let DoneClient {
             turn,
             told,
+            line,
             begun: _,
         } = self;
-        TurnEnd { told, turn }
+        PlaceEnd { line, told, turn }
     }
 }

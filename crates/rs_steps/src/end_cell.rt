@@ -3,20 +3,20 @@
 ghost use Rattle.std.specs.Prelude.{◌≡◌, None, Some, IfOk, IfSome};
 ghost use Rattle.std.specs.Arc.{arc_value};
 ghost use Rattle.crossbeam_queue.specs.Passes.{view, IsPassOf};
-ghost use Rattle.rs_steps.specs.Begins.{client_of};
-ghost use Rattle.rs_steps.specs.Served.{client_with};
+ghost use Rattle.rs_turns.specs.Visits.{place_at};
+ghost use Rattle.rs_steps.specs.Begins.{place_of};
 
 use crate::begun::Begun;
 use crate::stages::DoneClient;
 use crossbeam_queue::protocol::{Outcome, Protocol, Split};
 use crossbeam_queue::{Pass, RuledArrayQueue};
-use rs_turns::{PlaceGate, Turn};
+use rs_turns::{LineGate, Turn};
 use std::alloc::{AllocError, Global};
 use std::sync::Arc;
 
 /// What lies in the cell: first what the client began with, so that it is known whose end comes, and later the client once it is done.
 #[derive(Drop)]
-pub(crate) enum Coming<T: Turn + Drop, G: PlaceGate + Drop> {
+pub(crate) enum Coming<T: Turn + Drop, G: LineGate + Drop> {
     Begun(Begun<T, G>),
     Done(DoneClient<T, G>),
 }
@@ -24,7 +24,7 @@ pub(crate) enum Coming<T: Turn + Drop, G: PlaceGate + Drop> {
 /// The rule of the cell: what lies in it came of the client that all who use it know.
 pub(crate) struct EndRule;
 
-impl<T: Turn + Drop, G: PlaceGate + Drop> Protocol<Coming<T, G>, Option<Begun<T, G>>> for EndRule {
+impl<T: Turn + Drop, G: LineGate + Drop> Protocol<Coming<T, G>, Option<Begun<T, G>>> for EndRule {
     ghost use Rattle.std.specs.Prelude.{None};
     ghost use Rattle.rs_steps.specs.Ends.{IsEndCell, begun_in};
 
@@ -36,7 +36,7 @@ impl<T: Turn + Drop, G: PlaceGate + Drop> Protocol<Coming<T, G>, Option<Begun<T,
 /// It is said whose end comes.
 pub(crate) struct Say;
 
-impl<T: Turn + Drop, G: PlaceGate + Drop> Outcome<Coming<T, G>, Option<Begun<T, G>>> for Say {
+impl<T: Turn + Drop, G: LineGate + Drop> Outcome<Coming<T, G>, Option<Begun<T, G>>> for Say {
     ghost use Rattle.std.specs.Prelude.{◌≡◌, Some};
     ghost use Rattle.rs_steps.specs.Ends.{begun_in};
 
@@ -46,7 +46,7 @@ impl<T: Turn + Drop, G: PlaceGate + Drop> Outcome<Coming<T, G>, Option<Begun<T, 
 /// It comes, and it is of the client that was said.
 pub(crate) struct Take;
 
-impl<T: Turn + Drop, G: PlaceGate + Drop> Outcome<Coming<T, G>, Option<Begun<T, G>>> for Take {
+impl<T: Turn + Drop, G: LineGate + Drop> Outcome<Coming<T, G>, Option<Begun<T, G>>> for Take {
     ghost use Rattle.std.specs.Prelude.{◌≡◌, Some};
     ghost use Rattle.rs_steps.specs.Ends.{begun_in};
 
@@ -56,7 +56,7 @@ impl<T: Turn + Drop, G: PlaceGate + Drop> Outcome<Coming<T, G>, Option<Begun<T, 
 /// It is put in.
 pub(crate) struct Put;
 
-impl<T: Turn + Drop, G: PlaceGate + Drop> Outcome<Coming<T, G>, Option<Begun<T, G>>> for Put {
+impl<T: Turn + Drop, G: LineGate + Drop> Outcome<Coming<T, G>, Option<Begun<T, G>>> for Put {
     ghost use Rattle.std.specs.Prelude.{◌≡◌};
 
     ghost then = { λ v x w. w ≡ v };
@@ -65,7 +65,7 @@ impl<T: Turn + Drop, G: PlaceGate + Drop> Outcome<Coming<T, G>, Option<Begun<T, 
 /// One more knows it.
 pub(crate) struct Share;
 
-impl<T: Turn + Drop, G: PlaceGate + Drop> Split<Option<Begun<T, G>>> for Share {
+impl<T: Turn + Drop, G: LineGate + Drop> Split<Option<Begun<T, G>>> for Share {
     ghost left = { λ v. v };
 
     ghost right = { λ v. v };
@@ -78,7 +78,7 @@ type EndPass<T, G> = Pass<Coming<T, G>, Option<Begun<T, G>>>;
 /// One of the two who know whose end comes in a cell: the one that puts it in, and the one that takes it. Contracts see what the client
 /// began with.
 #[derive(Drop)]
-pub(crate) struct ClientEnd<T: Turn + Drop, G: PlaceGate + Drop> {
+pub(crate) struct ClientEnd<T: Turn + Drop, G: LineGate + Drop> {
     cell: Arc<EndCell<T, G>>,
     pass: EndPass<T, G>,
     pub(crate) begun: Begun<T, G>,
@@ -87,7 +87,7 @@ pub(crate) struct ClientEnd<T: Turn + Drop, G: PlaceGate + Drop> {
 }
 
 /// A cell of which it was not said whose end comes.
-fn empty<T: Turn + Drop, G: PlaceGate + Drop>(
+fn empty<T: Turn + Drop, G: LineGate + Drop>(
     alloc: Global,
 ) -> Result<(Arc<EndCell<T, G>>, EndPass<T, G>), AllocError>
     ensures { IfOk result (λ r. IsPassOf (arc_value r.0) r.1 × (view r.1 ≡ None)) }
@@ -100,7 +100,7 @@ fn empty<T: Turn + Drop, G: PlaceGate + Drop>(
 }
 
 /// A cell in which it was said whose end comes.
-fn said<T: Turn + Drop, G: PlaceGate + Drop>(
+fn said<T: Turn + Drop, G: LineGate + Drop>(
     alloc: Global,
     begun: Begun<T, G>,
 ) -> Result<(Arc<EndCell<T, G>>, EndPass<T, G>), AllocError>
@@ -118,34 +118,32 @@ fn said<T: Turn + Drop, G: PlaceGate + Drop>(
     }
 }
 
-/// Both who know of the end of a client of this turn and this gate, whose first connection has this number.
-pub(crate) fn client_ends<T: Turn + Drop, G: PlaceGate + Drop>(
+/// Both who know of the end of a client of this turn and this gate.
+pub(crate) fn client_ends<T: Turn + Drop, G: LineGate + Drop>(
     alloc: Global,
     turn: &T,
     gate: &G,
-    first: u64,
 ) -> Result<(ClientEnd<T, G>, ClientEnd<T, G>), AllocError>
-    ensures takes { IfOk result (λ both. client_of T.connections G.shared both.1.begun ≡ client_with (T.connections turn.now) (G.shared gate.now) first) }
-    ensures same { IfOk result (λ both. (both.0.begun.turn.value ≡ turn.now) × (both.0.begun.gate.value ≡ gate.now)
-        × (both.0.begun.first ≡ first)) }
+    ensures takes { IfOk result (λ both. place_of T.connections G.shared both.1.begun ≡ place_at (T.connections turn.now) (G.shared gate.now)) }
+    ensures same { IfOk result (λ both. (both.0.begun.turn.value ≡ turn.now) × (both.0.begun.gate.value ≡ gate.now)) }
 {
-    let (cell, mut pass) = said(alloc, Begun::new(turn, gate, first))?;
+    let (cell, mut pass) = said(alloc, Begun::new(turn, gate))?;
     let own_cell = Arc::try_clone(&cell)?;
     let taking = cell.another::<Share>(&mut pass);
     let own = ClientEnd {
         cell: own_cell,
         pass,
-        begun: Begun::new(turn, gate, first),
+        begun: Begun::new(turn, gate),
     };
     let other = ClientEnd {
         cell,
         pass: taking,
-        begun: Begun::new(turn, gate, first),
+        begun: Begun::new(turn, gate),
     };
     Ok((own, other))
 }
 
-impl<T: Turn + Drop, G: PlaceGate + Drop> ClientEnd<T, G> {
+impl<T: Turn + Drop, G: LineGate + Drop> ClientEnd<T, G> {
     /// Puts the end of the client in. It is dropped if another one lies there, which never happens: each client is done once.
     pub(crate) fn put(self, done: DoneClient<T, G>)
         requires { done ≡ self.begun }

@@ -1,4 +1,4 @@
-//! A client, which a pool serves in steps.
+//! A client, which is served in steps.
 
 ghost use Rattle.std.specs.Prelude.{◌≡◌};
 ghost use Rattle.rs_steps.specs.Stages.{begun_of};
@@ -6,44 +6,30 @@ ghost use Rattle.rs_steps.specs.Stages.{begun_of};
 use crate::end_cell::ClientEnd;
 use crate::stages::{FreeClient, Stage};
 use rs_pool::{Client, Watch};
-use rs_turns::{PlaceGate, Turn};
+use rs_turns::{LineGate, Turn};
 use std::alloc::Global;
 use std::sync::Wait;
 
 /// A client on its way, and where its end goes.
 #[derive(Drop)]
-pub(crate) struct Task<T: Turn + Drop, G: PlaceGate + Drop> {
+pub(crate) struct Task<T: Turn + Drop, G: LineGate + Drop> {
     pub(crate) stage: Stage<T, G>,
     pub(crate) end: ClientEnd<T, G>,
     ghost own: { begun_of stage ≡ end.begun },
 }
 
-impl<T: Turn + Drop, G: PlaceGate + Drop> Task<T, G> {
+impl<T: Turn + Drop, G: LineGate + Drop> Task<T, G> {
     /// A client that was not served yet, and where its end goes.
     pub(crate) fn new(client: FreeClient<T, G>, end: ClientEnd<T, G>) -> Task<T, G>
         requires turn { client.turn.value ≡ end.begun.turn.value }
         requires gate { client.gate.value ≡ end.begun.gate.value }
-        requires first { client.first ≡ end.begun.first }
     {
         let stage = Stage::Free(client);
         Task { stage, end }
     }
-
-    /// Makes its next step, which may wait: for its next connection, for its client, or for the writer.
-    fn go_on<H: Wait>(self, rt: &H, alloc: Global) -> Task<T, G> {
-        let Task { stage, end } = self;
-        let stage = match stage {
-            Stage::Free(client) => client.next(alloc),
-            Stage::Served(client) => client.read(alloc),
-            Stage::Read(client) => client.handle(rt, alloc),
-            Stage::Ended(client) => Stage::Free(client.give_back()),
-            Stage::Done(client) => Stage::Done(client),
-        };
-        Task { stage, end }
-    }
 }
 
-impl<T: Turn + Drop, G: PlaceGate + Drop, H: Wait> Client<H> for Task<T, G>
+impl<T: Turn + Drop, G: LineGate + Drop, H: Wait> Client<H> for Task<T, G>
 where
     T::In: Send,
 {
@@ -68,14 +54,18 @@ where
     }
 
     fn step(self, rt: &H, alloc: Global) -> Option<Task<T, G>> {
-        let Task { stage, end } = self.go_on(rt, alloc);
-        match stage {
+        let Task { stage, end } = self;
+        let stage = match stage {
+            Stage::Free(client) => client.next(alloc),
+            Stage::Served(client) => client.read(alloc),
+            Stage::Read(client) => client.handle(rt, alloc),
+            Stage::Ended(client) => Stage::Free(client.give_back()),
             Stage::Done(client) => {
                 end.put(client);
-                None
+                return None;
             }
-            stage => Some(Task { stage, end }),
-        }
+        };
+        Some(Task { stage, end })
     }
 
     fn write_out<W: Watch<T::In>>(self, watch: &W) -> (Task<T, G>, bool) {

@@ -72,7 +72,7 @@ served_at limit number place gate before after transfer result tail place_is (st
     }
 
 -- what a gate served, by what contracts see of the gate
-seen_as_shared : {G : Type 0} (stands : G → List Entry → Type 0) (mark : G → Mark) (pending : G → List Operation) (shared : G → SharedValue) (limit most : ℕ)
+pub seen_as_shared : {G : Type 0} (stands : G → List Entry → Type 0) (mark : G → Mark) (pending : G → List Operation) (shared : G → SharedValue) (limit most : ℕ)
     → ((gate : G) (list : List Entry) → stands gate list → Knows limit (shared gate) list) → ((gate : G) → (shared gate).mark ≡ mark gate) → ((gate : G) → (shared gate).pending ≡ pending gate)
     → (from : Point State) (first : List Operation) (gate : G) (transfer : Transfer) (result : Result Served ServeFault)
     → IsConnection from first most (gate_view stands mark pending gate) transfer result
@@ -107,22 +107,3 @@ seen_as_shared {G} stands mark pending shared limit most knows same_mark same_pe
       },
       ends,
     )
-
--- the same, of a gate of any type
-pub served_over : {G : Type 0} (stands : G → List Entry → Type 0) (mark : G → Mark) (pending : G → List Operation) (shared : G → SharedValue) (limit most : ℕ)
-    → ((gate : G) (list : List Entry) → stands gate list → Knows limit (shared gate) list) → ((gate : G) → (shared gate).mark ≡ mark gate) → ((gate : G) → (shared gate).pending ≡ pending gate) → most ≡ MAX_CHANGES
-    → (number place : ℕ) (gate before : G) (after : SharedValue) (transfer : Transfer) (result : Result Served ServeFault) (tail : List Entry)
-    → place ≡ (shared gate).mark.place
-    → IsConnection (start (assigned_of place number) (shared gate).known (mark gate)) (pending gate) most (gate_view stands mark pending before) transfer result
-    → after.known ≡ (shared before).known → HandsOn (shared before).mark tail after.mark → operations_of tail ≡ (shared before).pending → after.pending ≡ []
-    → IsServedAt limit (start (assigned_of (shared gate).mark.place number) (shared gate).known (shared gate).mark) (shared gate).pending transfer result after
-served_over {G} stands mark pending shared limit most knows same_mark same_pending same_most number place gate before after transfer result tail place_is connection known_is hands_on is none =
-    let own = shared gate in
-    let from : Mark → Point State = λ m. start (assigned_of place number) own.known m in
-    let U : Mark → List Operation → ℕ → Type 0 =
-    λ m l n. IsConnection (from m) l n (gate_view (Knows limit) (λ (g : SharedValue). g.mark) (λ (g : SharedValue). g.pending) (shared before)) transfer result in
-    let first : U (mark gate) (pending gate) most = seen_as_shared stands mark pending shared limit most knows same_mark same_pending (from (mark gate)) (pending gate) before transfer result connection in
-    let second : U own.mark (pending gate) most = subst (λ (m : Mark). U m (pending gate) most) (sym (same_mark gate)) first in
-    let third : U own.mark own.pending most = subst (λ (l : List Operation). U own.mark l most) (sym (same_pending gate)) second in
-    let fourth : U own.mark own.pending MAX_CHANGES = subst (λ (n : ℕ). U own.mark own.pending n) same_most third in
-    served_at limit number place own (shared before) after transfer result tail place_is fourth known_is hands_on is none

@@ -31,8 +31,8 @@ took_more first None (Some us) xs ys p q = absurd q
 took_more None (Some vs) (Some us) xs ys p q = absurd p
 took_more (Some ws) (Some vs) (Some us) xs ys p q = q ∙ (ap (λ l. l ++ ys) p ∙ append_assoc ws xs ys)
 
-pub served_none : (limit begin : ℕ) (place : Place) → ServedSoFar limit begin place begin place
-served_none limit begin place = record {
+pub served_none : (limit : ℕ) (place : Place) → ServedSoFar limit place 1 place
+served_none limit place = record {
   visits = [];
   extends = λ more last h. h;
   given = gave_none place.connections.waiting;
@@ -41,9 +41,9 @@ served_none limit begin place = record {
   pending = λ none. none;
 }
 
-pub served_more : (limit begin number : ℕ) (first now after : Place) (connections : Connections) (given : Streams) → ServedSoFar limit begin first number now → GivesNext now.connections (Some given) connections
-    → ServesOne limit number (record { connections = connections; gate = now.gate }) given after → ServedSoFar limit begin first (next_number number) after
-served_more limit begin number first now after connections given so_far next one =
+pub served_more : (limit number : ℕ) (first now after : Place) (connections : Connections) (given : Streams) → ServedSoFar limit first number now → GivesNext now.connections (Some given) connections
+    → ServesOne limit number (record { connections = connections; gate = now.gate }) given after → ServedSoFar limit first (next_number number) after
+served_more limit number first now after connections given so_far next one =
     let visit = one.visit in
     let G : Streams → Type 0 = λ s. Gave now.connections.waiting (s ∷ []) connections.waiting in
     let gave : Gave now.connections.waiting (visit.given ∷ []) after.connections.waiting =
@@ -56,7 +56,7 @@ served_more limit begin number first now after connections given so_far next one
       visits = so_far.visits ++ visit ∷ [];
       extends = λ more last h.
           let R : SharedValue → Type 0 = λ gate. AreConnectionsServed limit (next_number number) gate more last in
-          let S : List Visit → Type 0 = λ l. AreConnectionsServed limit begin first.gate l last in
+          let S : List Visit → Type 0 = λ l. AreConnectionsServed limit 1 first.gate l last in
           subst S (sym (append_assoc so_far.visits (visit ∷ []) more)) (so_far.extends (visit ∷ more) last (one.served, subst R (sym one.leaves) h));
       given = subst P (sym (map-append (λ (v : Visit). v.given) so_far.visits (visit ∷ [])))
           (gave_more first.connections.waiting now.connections.waiting after.connections.waiting (map (λ (v : Visit). v.given) so_far.visits) (visit.given ∷ []) so_far.given gave);

@@ -69,7 +69,7 @@ stored_more limit mark exchange p lists short list legal extends stored =
       stored = (once_more limit e short list legal extends (all_last (StandsOnce e) lists short stored.stored), tt);
     }
 
-connection_within : (limit number : ℕ) (list : List Entry) (gate : SharedValue) (visit : Visit) → IsLegal limit list → IsConnectionServed limit number gate visit → Extends list visit.gate.known
+pub connection_within : (limit number : ℕ) (list : List Entry) (gate : SharedValue) (visit : Visit) → IsLegal limit list → IsConnectionServed limit number gate visit → Extends list visit.gate.known
     → IsWithin list (start (assigned_of gate.mark.place number) gate.known gate.mark) visit
 connection_within limit number list gate visit legal one extends =
     let served = one.connection in

@@ -1,3 +1,5 @@
+pub mod Ended
+pub mod Places
 pub mod Serving
 pub mod Shared
 pub mod Turns

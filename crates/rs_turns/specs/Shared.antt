@@ -26,7 +26,6 @@ pub record Knows (limit : ℕ) (gate : SharedValue) (list : List Entry) : Type 0
 -- behind its last one, one after the other.
 pub record HandsOn (old : Mark) (tail : List Entry) (new : Mark) : Type 0 where
   pub place : new.place ≡ old.place
-  pub alone : new.alone ≡ old.alone
   pub next : AreNext old.place old.serial tail
   pub serial : new.serial ≡ old.serial + length tail
   pub sent : Sends old.sent tail new.sent

@@ -62,12 +62,12 @@ pub record ServesOne (limit number : ℕ) (before : Place) (given : Streams) (af
   pub leaves : visit.gate ≡ after.gate
   pub taken_back : TakesBack before.connections visit.ending after.connections
 
--- From the first place to the one now these connections were served, numbered from `begin` on. Whatever is served from now on, from this
+-- From the first place to the one now these connections were served, numbered from 1 on. Whatever is served from now on, from this
 -- number on, was served after them. The turn gave them and took them back, the place stays, and if nothing was expected at first, nothing is
 -- now.
-pub record ServedSoFar (limit begin : ℕ) (first : Place) (number : ℕ) (now : Place) : Type 0 where
+pub record ServedSoFar (limit : ℕ) (first : Place) (number : ℕ) (now : Place) : Type 0 where
   pub visits : List Visit
-  pub extends : (more : List Visit) (last : SharedValue) → AreConnectionsServed limit number now.gate more last → AreConnectionsServed limit begin first.gate (visits ++ more) last
+  pub extends : (more : List Visit) (last : SharedValue) → AreConnectionsServed limit number now.gate more last → AreConnectionsServed limit 1 first.gate (visits ++ more) last
   pub given : Gave first.connections.waiting (map (λ visit. visit.given) visits) now.connections.waiting
   pub ended : TookBack first.connections.ended (map (λ visit. visit.ending) visits) now.connections.ended
   pub place : now.gate.mark.place ≡ first.gate.mark.place

@@ -3,13 +3,13 @@
 use std::alloc::AllocError;
 use thiserror::Error;
 
-/// Why a store was not run. No connection was served.
+/// Why a store was not run.
 #[derive(Clone, Copy, Debug, PartialEq, Eq, Error)]
 pub enum StoreFault {
     /// Memory was refused.
     #[error("out of memory")]
     NoMemory,
-    /// The writer's thread, or that of the first place, cannot be started.
+    /// The writer's thread, or the first one for connections, cannot be started.
     #[error("no thread can be started")]
     NoThread,
 }

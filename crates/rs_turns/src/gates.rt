@@ -23,7 +23,7 @@ pub trait StoreGate: Gate {
     ghost shared: { Self → SharedValue };
 
     /// The place.
-    fn place(&self) -> u8
+    fn place(&self) -> u16
         ensures { result ≡ (shared self.now).mark.place };
 
     /// A token of the list that it knows. By it this list is compared with those that other gates know ([`Told::reaches`]).
@@ -44,16 +44,7 @@ pub trait StoreGate: Gate {
     ghost same_most: { Self.most ≡ MAX_CHANGES };
 }
 
-/// The gate of a client at a place that other clients use too. It hands nothing on to the client's next connection.
-pub trait PlaceGate: StoreGate {
-    /// Nothing is expected any more.
-    fn hand_on(&mut self)
-        ensures known { (Self.shared self.new).known ≡ (Self.shared self.old).known }
-        ensures mark { (Self.shared self.new).mark ≡ (Self.shared self.old).mark }
-        ensures pending { (Self.shared self.new).pending ≡ [] };
-}
-
-/// The gate of a place with one client at a time, with the place's line.
+/// The gate of a client that has a line of its own, whose number is the place.
 pub trait LineGate: StoreGate {
     ghost use Rattle.rs_queue.specs.Ends.{Closed};
 

@@ -1,10 +1,14 @@
 //! What gives a place its connections.
 
+ghost use Rattle.std.specs.Prelude.{ℕ, List};
 ghost use Rattle.std.specs.Option.{option_map};
+ghost use Rattle.rs_message.specs.declared.entry.Entry.{Entry};
 ghost use Rattle.rs_server.specs.Counts.{failures_of, inner_of};
+ghost use Rattle.rs_turns.specs.Ended.{HasEnded, ending_of};
 ghost use Rattle.rs_turns.specs.Turns.{GivesNext, TakesBack};
 
-use rs_server::{Clock, Counted, ServeFault, Served, Tally};
+use crate::ended::EndedConnection;
+use rs_server::Clock;
 use rs_version::{StoreName, Told};
 use std::io::{Read, Write};
 
@@ -19,9 +23,9 @@ pub struct Connection<R, W, C> {
     pub clock: C,
 }
 
-/// Gives a place, or one of its clients, its connections, one after the other, and takes them back once they have ended.
+/// Gives a place its connections, one after the other, and takes them back once they have ended.
 ///
-/// The parts of a connection own what they need, since the place's thread takes them. A turn over given connections, as those of a
+/// The parts of a connection own what they need, since threads take them. A turn over given connections, as those of a
 /// test are, says which by its `connections`; one over sockets says nothing, and promises nothing.
 pub trait Turn {
     ghost use Rattle.rs_turns.specs.Turns.{Connections, none_given};
@@ -47,33 +51,37 @@ pub trait Turn {
               moments = Self.Time.moments c.clock;
             }) result) (connections self.new) };
 
-    /// Takes back a connection that was served, how it ended, and what was counted of it. Its reader and its writer have counted how often
-    /// they failed.
-    fn end(
-        &mut self,
-        connection: Connection<Counted<Self::In>, Counted<Self::Out>, Self::Time>,
-        served: Result<Served, ServeFault>,
-        tally: Tally,
-    )
+    /// Takes back a connection that was served and has ended.
+    ///
+    /// Whoever calls it owes what is known of a connection at its end (`HasEnded`), also in a run that never ends: it ended as a session does
+    /// that was served under its number.
+    fn end(&mut self, ended: EndedConnection<Self::In, Self::Out, Self::Time>)
+        requires { (limit : ℕ) × (told : List Entry) × HasEnded limit ended.place ended.number
+            (ending_of (Self.In.remaining (inner_of ended.connection.input)) (Self.Out.contents (inner_of ended.connection.output))
+            (Self.Time.moments ended.connection.clock) (failures_of ended.connection.input) (failures_of ended.connection.output) ended.served)
+            told }
         ensures { TakesBack (connections self.old)
-            (record {
-              streams = record {
-                unread = Self.In.remaining (inner_of connection.input);
-                written = Self.Out.contents (inner_of connection.output);
-                moments = Self.Time.moments connection.clock;
-              };
-              read_failures = failures_of connection.input;
-              write_failures = failures_of connection.output;
-              result = served;
-            })
+            (ending_of (Self.In.remaining (inner_of ended.connection.input)) (Self.Out.contents (inner_of ended.connection.output))
+            (Self.Time.moments ended.connection.clock) (failures_of ended.connection.input) (failures_of ended.connection.output) ended.served)
             (connections self.new) };
 }
 
-/// What is left of a turn whose connections were served.
+/// What is left of a place whose connections were served.
 #[derive(Drop)]
-pub struct TurnEnd<N: StoreName, T> {
+pub struct PlaceEnd<N: StoreName, L, T> {
+    /// What is left of its line.
+    pub line: L,
     /// A token of the list that its gate knew last.
     pub told: Told<N>,
     /// The turn, which took its connections back.
     pub turn: T,
+}
+
+/// What is left of all places.
+#[derive(Drop)]
+pub struct PlacesEnd<N: StoreName, L, T> {
+    /// What is left of each place, in their order.
+    pub ends: Vec<PlaceEnd<N, L, T>>,
+    /// How many threads, or lanes with threads, there were for them.
+    pub threads: usize,
 }
