@@ -10,4 +10,4 @@ mod refused;
 mod turn;
 
 pub use full_log::FullLog;
-pub use turn::{ConnectionClock, ListenTurn};
+pub use turn::{ClientWord, ConnectionClock, ListenTurn};

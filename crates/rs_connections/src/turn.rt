@@ -1,15 +1,16 @@
-//! The connections of one client of a place.
+//! The connections of one client.
 
 ghost use Rattle.rs_server.specs.Counts.{failures_of, inner_of};
+ghost use Rattle.rs_turns.specs.Ended.{ending_of};
 ghost use Rattle.rs_turns.specs.Turns.{TakesBack, none_given};
 
 use crate::close_reason::CloseReason;
 use crate::full_log::FullLog;
 use crate::refused::Refused;
 use log::{Log, info};
-use rs_server::{Counted, ServeFault, Served, Tally};
+use rs_server::Tally;
 use rs_sockets::{Accepted, FromClient, Listener, SystemClock, ToClient, abandon, close};
-use rs_turns::{Connection, Turn};
+use rs_turns::{Connection, EndedConnection, Turn};
 use std::alloc::Global;
 use std::fmt;
 use std::fmt::{Display, Formatter};
@@ -28,10 +29,29 @@ pub struct ConnectionClock<H: Clock> {
     full: Option<Arc<FullLog>>,
 }
 
+/// The word by which the log calls a client, before its number.
+#[derive(Clone, Copy)]
+pub enum ClientWord {
+    /// There are as many places as clients: each client is at a place.
+    Place,
+    /// There are more clients.
+    Client,
+}
+
+impl Display for ClientWord {
+    fn fmt<W: fmt::Write>(&self, f: &mut Formatter<W>) -> fmt::Result {
+        match self {
+            ClientWord::Place => write!(f, "place"),
+            ClientWord::Client => write!(f, "client"),
+        }
+    }
+}
+
 /// Which connection it is, as the log says.
 #[derive(Clone, Copy)]
 pub(crate) struct LoggedConnection {
-    place: u8,
+    word: ClientWord,
+    line: u16,
     number: u64,
     peer: SocketAddr,
 }
@@ -39,11 +59,12 @@ pub(crate) struct LoggedConnection {
 impl Display for LoggedConnection {
     fn fmt<W: fmt::Write>(&self, f: &mut Formatter<W>) -> fmt::Result {
         let LoggedConnection {
-            place,
+            word,
+            line,
             number,
             peer,
         } = self;
-        write!(f, "place {place}, connection {number}, {peer}")
+        write!(f, "{word} {line}, connection {number}, {peer}")
     }
 }
 
@@ -58,7 +79,7 @@ impl<H: Clock + Log> rs_server::Clock for ConnectionClock<H> {
     }
 }
 
-/// The connections of one client of a place, from the listener that all share, and the system's time.
+/// The connections of one client, from the listener that all share, and the system's time.
 #[derive(Drop)]
 pub struct ListenTurn<H: Clock> {
     rt: H,
@@ -67,22 +88,24 @@ pub struct ListenTurn<H: Clock> {
     full: Arc<FullLog>,
     // That of the last connection, so that its last moment stands if the clock cannot be read.
     clock: SystemClock,
-    place: u8,
-    // That of the last connection that it gave, as the place numbers them.
+    word: ClientWord,
+    // The number of the client's line.
+    line: u16,
+    // That of the last connection that it gave. The first is 1.
     number: u64,
     // The connection that it gave and did not take back.
     given: Option<LoggedConnection>,
 }
 
 impl<H: Clock> ListenTurn<H> {
-    /// `before` is the number before that of the first connection.
+    /// Those of the client of this line, which the log calls by the word.
     pub fn new(
         rt: H,
         alloc: Global,
         listener: Arc<Listener>,
         full: Arc<FullLog>,
-        place: u8,
-        before: u64,
+        word: ClientWord,
+        line: u16,
     ) -> ListenTurn<H> {
         ListenTurn {
             rt,
@@ -90,8 +113,9 @@ impl<H: Clock> ListenTurn<H> {
             listener,
             full,
             clock: SystemClock::new(),
-            place,
-            number: before,
+            word,
+            line,
+            number: 0,
             given: None,
         }
     }
@@ -117,7 +141,8 @@ impl<H: Clock + Log + Copy + Send> Turn for ListenTurn<H> {
         } = self.listener.accept(&self.rt, self.alloc)?;
         self.number = self.number.saturating_add(1);
         let id = LoggedConnection {
-            place: self.place,
+            word: self.word,
+            line: self.line,
             number: self.number,
             peer,
         };
@@ -137,24 +162,18 @@ impl<H: Clock + Log + Copy + Send> Turn for ListenTurn<H> {
     }
 
     /// Closes the connection, as [`abandon`] does if it failed, else as [`close`].
-    fn end(
-        &mut self,
-        connection: Connection<Counted<FromClient>, Counted<ToClient>, ConnectionClock<H>>,
-        served: Result<Served, ServeFault>,
-        tally: Tally,
-    )
+    fn end(&mut self, ended: EndedConnection<FromClient, ToClient, ConnectionClock<H>>)
         ensures { TakesBack none_given
-            (record {
-              streams = record {
-                unread = ⟦<FromClient as Read>⟧.remaining (inner_of connection.input);
-                written = ⟦<ToClient as Write>⟧.contents (inner_of connection.output);
-                moments = ⟦<ConnectionClock<H> as rs_server::Clock>⟧.moments connection.clock;
-              };
-              read_failures = failures_of connection.input;
-              write_failures = failures_of connection.output;
-              result = served;
-            }) none_given }
+            (ending_of (⟦<FromClient as Read>⟧.remaining (inner_of ended.connection.input)) (⟦<ToClient as Write>⟧.contents (inner_of ended.connection.output))
+            (⟦<ConnectionClock<H> as rs_server::Clock>⟧.moments ended.connection.clock) (failures_of ended.connection.input) (failures_of ended.connection.output) ended.served)
+            none_given }
     {
+        let EndedConnection {
+            connection,
+            served,
+            tally,
+            ..
+        } = ended;
         let Connection {
             input,
             output,

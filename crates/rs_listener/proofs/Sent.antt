@@ -2,9 +2,6 @@
 use denote.Builtin.{u16}
 use denote.Param.Send.{IsSend, recorded_send, sendable, struct_send}
 use denote.Struct.Declared.{shape}
-use Rattle.rs_intake.proofs.blank.BlankQueue.TheSendSync as queue
-use Rattle.rs_line.proofs.fullness.Fullness.TheSendSync as fullness
-use Rattle.rs_line.specs.contracts.fullness.Fullness as Fullness
 use Rattle.rs_message.proofs.places.PlaceCount.TheSendSync as count
 use Rattle.rs_sockets.proofs.listener.Listener.TheSendSync as listener
 use Rattle.rs_sockets.specs.contracts.listener.Listener as Listener
@@ -22,4 +19,4 @@ idle_send : IsSend (Option.the_field Duration.the_row).row
 idle_send = search sendable depth 60 fits 20000
 
 pub server_send : IsSend Server.the_row
-server_send = recorded_send Server.the_field.row _ _ Server.the_type.to_one (struct_send (shape Server.the_type) (heap.the_field_send, (Arc-send Listener.the_row listener.the_send listener.the_sync, (blank_send, (queue.the_send, (Arc-send Fullness.the_row fullness.the_send fullness.the_sync, (count.the_send, (clients_send, (idle_send, tt)))))))))
+server_send = recorded_send Server.the_field.row _ _ Server.the_type.to_one (struct_send (shape Server.the_type) (heap.the_field_send, (Arc-send Listener.the_row listener.the_send listener.the_sync, (blank_send, (count.the_send, (clients_send, (idle_send, tt)))))))

@@ -15,7 +15,7 @@ pub enum ListenFault {
     /// Memory was refused.
     #[error("out of memory")]
     NoMemory,
-    /// The thread of the store's writer, or that of the first place, cannot be started.
+    /// The thread of the store's writer, or that of the first client, cannot be started.
     #[error("no thread can be started")]
     NoThread,
 }

@@ -1,7 +1,7 @@
 //! The server.
 
-ghost use Rattle.std.specs.Prelude.{◌≡◌, ◌+◌, ◌<◌, ◌≤◌, ◌⊎◌, ℕ, List, IfOk};
-ghost use Rattle.rs_clients.specs.Fleet.{IsFleetRun};
+ghost use Rattle.std.specs.Prelude.{◌≡◌, ◌+◌, ◌<◌, ◌≤◌, ℕ, List, IfOk};
+ghost use Rattle.rs_message.specs.declared.entry.TheConstants.{MAX_LINES};
 ghost use Rattle.rs_places.specs.Store.{IsStoreRun};
 ghost use Rattle.rs_turns.specs.Turns.{Connections};
 
@@ -9,12 +9,11 @@ use crate::fault::ListenFault;
 use crate::opening::turns;
 use crate::polling::time_polls;
 use log::{Log, warn};
-use rs_clients::run_fleet;
-use rs_connections::FullLog;
-use rs_intake::{BlankQueue, blank_queue};
-use rs_line::Fullness;
-use rs_message::PlaceCount;
+use rs_connections::{ClientWord, FullLog};
+use rs_intake::blank_queue;
+use rs_message::{LineCount, MAX_LINES, PlaceCount};
 use rs_places::run_store;
+use rs_pool::Runner;
 use rs_sockets::{Listener, descriptor_limit};
 use rs_store::TopicLimit;
 use rs_version::Blank;
@@ -31,31 +30,29 @@ pub struct Server {
     alloc: Global,
     listener: Arc<Listener>,
     blank: Blank,
-    queue: BlankQueue,
-    fullness: Arc<Fullness>,
     places: PlaceCount,
     clients: u16,
     idle: Option<Duration>,
-    ghost both: { queue.places ≡ blank.places },
     ghost each: { places ≡ blank.places },
 }
 
 /// What a server did.
 #[derive(Clone, Copy, Debug, PartialEq, Eq)]
 pub struct Summary {
-    /// How many places had a thread of their own.
+    /// How many places had a thread: that of its client, or, with more clients than places, those of its lane.
     pub threads: usize,
     /// How many clients could be served at the same time.
     pub clients: u16,
-    /// How many changes all places sent to the writer, refused ones too. None if not all are known to be taken.
+    /// How many changes all clients sent to the writer, refused ones too. None if not all are known to be taken.
     pub changes: Option<u64>,
 }
 
 impl Server {
     /// Binds an address: a host's name, an IPv4 or an IPv6 address, and a port, as `localhost:1883` or `[::1]:1883`. Port 0 takes one
     /// that is free. It will accept `connections` connections, none if that is 0, and serve `clients` clients at the same time, but at
-    /// least as many as there are `places`, which they share. Their store is empty, and holds messages of at most `limit` topics. If `idle`
-    /// is given, a connection ends if no byte came for so long, or if no byte of what waits for its client was taken for so long.
+    /// least as many as there are `places`, and at most [`MAX_LINES`]. At each place one client at a time reads the store. The store is
+    /// empty, and holds messages of at most `limit` topics. If `idle` is given, a connection ends if no byte came for so long, or if no byte
+    /// of what waits for its client was taken for so long.
     ///
     /// # Errors
     ///
@@ -72,15 +69,11 @@ impl Server {
         idle: Option<Duration>,
     ) -> Result<Server, ListenFault> {
         let blank = Blank::new(alloc, limit, places)?;
-        let queue = blank_queue(alloc, places)?;
-        let fullness = queue.fullness()?;
         match Listener::bind(rt, alloc, address, connections, idle) {
             Ok(listener) => Ok(Server {
                 alloc,
                 listener: Arc::new(alloc, listener).map_err(|_| AllocError)?,
                 blank,
-                queue,
-                fullness,
                 places,
                 clients,
                 idle,
@@ -101,107 +94,110 @@ impl Server {
         }
     }
 
-    /// Serves clients, until all connections were accepted and have ended.
+    /// Serves clients, until all connections were accepted and have ended. Each client has a line of its own to the store's writer.
     ///
-    /// Each place has a thread, or two if clients share it. If the first cannot be started, and is not that of the first place, its clients
-    /// are served all the same: by the threads of the other places, or, if there are no more clients than places, by the caller's thread,
-    /// one after the other. If there are more clients than places, and the process may have fewer descriptors than they need, fewer are served at the same
-    /// time, but more than there are places. A fault of a connection ends that connection alone. Once the last connection was accepted,
-    /// clients that have none may need up to a second to end.
+    /// With as many clients as places, each client has a thread. If a client's thread cannot be started, the caller's thread serves it and
+    /// those behind it, one after the other. With more clients, each place has a lane of threads, and the clients are in the lanes by turns.
+    /// If no thread can be started for a lane, the threads of the lanes before serve its clients too. If the process may have fewer
+    /// descriptors than so many clients need, fewer are served at the same time, but more than there are places. A fault of a connection
+    /// ends that connection alone. Once the last connection was accepted, clients that have none may need up to a second to end.
     ///
     /// The log of `rt` has a line when each connection begins, and one that says how it ended and what it was refused, one when the store is
     /// full, one when it may take new topics again, and before them all a warning if there are too few descriptors.
     ///
-    /// The number of changes is that of a run of the store, as [`run_store`] says it, or [`run_fleet`], if there are more clients than
-    /// places. The clause is weak: any number meets it, since it says nothing of the clients.
+    /// The number of changes is that of a run of the store with so many clients, as [`run_store`] says it. The clause is weak: any number meets
+    /// it, since it says nothing of what the clients sent.
     ///
     /// # Errors
     ///
     /// [`NoMemory`](ListenFault::NoMemory) if memory is refused for the store, the queue, the gates or the threads,
-    /// [`NoThread`](ListenFault::NoThread) if the thread of the store's writer, or that of the first place, cannot be started,
+    /// [`NoThread`](ListenFault::NoThread) if the thread of the store's writer, or that of the first client or the first lane, cannot be started,
     /// [`Address`](ListenFault::Address) if the descriptors are refused by which clients are watched. No client was served.
     pub fn run<H: Clock + Log + Threads + Wait + Copy + Send + Sync + 'static>(
         self,
         rt: H,
     ) -> Result<Summary, ListenFault>
-        ensures { IfOk result (λ summary. (before : List Connections) × (after : List Connections) × (version : ℕ)
-            × (IsStoreRun self.blank.limit self.blank.places before after version summary.changes
-            ⊎ ((self.places < self.clients) × IsFleetRun self.blank.limit self.blank.places before after version summary.changes))) }
+        ensures run { IfOk result (λ summary. (before : List Connections) × (after : List Connections) × (version : ℕ)
+            × IsStoreRun self.blank.limit summary.clients before after version summary.changes) }
+        ensures alone { IfOk result (λ summary. self.clients ≤ self.places → summary.clients ≡ self.places) }
+        ensures more { IfOk result (λ summary. self.places < self.clients
+            → (self.places < summary.clients) × (summary.clients ≤ self.clients)) }
     {
         let Server {
             alloc,
             listener,
             blank,
-            queue,
-            fullness,
             places,
             clients,
             idle,
         } = self;
         let alone = u16::from(places.get());
-        let served = affordable(&rt, clients.max(alone), alone);
-        let full = FullLog::new(fullness);
+        let lines = line_count(&rt, clients, alone);
+        let queue = blank_queue(alloc, lines)?;
+        let full = FullLog::new(queue.fullness()?);
         let queue = queue.with_polls(time_polls(&rt, alloc));
-        if clients > alone {
-            run_shared(
-                rt, alloc, blank, queue, listener, full, places, served, idle,
-            )
+        let word = if lines.get() > alone {
+            ClientWord::Client
         } else {
-            run_alone(rt, alloc, blank, queue, listener, full, places)
-        }
+            ClientWord::Place
+        };
+        let turns = turns(rt, alloc, Arc::try_clone(&listener)?, full, lines, word)?;
+        let runner = make_runner(rt, alloc, listener, lines.get(), alone, idle)?;
+        let end = run_store(rt, alloc, blank, queue, turns, runner)?;
+        Ok(Summary {
+            threads: end.threads,
+            clients: lines.get(),
+            changes: end.changes,
+        })
     }
 }
 
-/// Serves so many clients, which share the places.
-fn run_shared<H: Clock + Log + Threads + Wait + Copy + Send + Sync + 'static>(
+/// What serves the clients: a thread for each, if there are as many as places, and otherwise a lane for each place.
+fn make_runner<H: Clock + Wait + Copy>(
     rt: H,
     alloc: Global,
-    blank: Blank,
-    queue: BlankQueue,
     listener: Arc<Listener>,
-    full: FullLog,
-    places: PlaceCount,
     clients: u16,
+    places: u16,
     idle: Option<Duration>,
-) -> Result<Summary, ListenFault>
-    requires { queue.places ≡ blank.places }
-    ensures { IfOk result (λ summary. (before : List Connections) × (after : List Connections) × (version : ℕ)
-        × IsFleetRun blank.limit blank.places before after version summary.changes) }
-{
-    let turns = turns(rt, alloc, Arc::try_clone(&listener)?, full, places, clients)?;
-    let lanes = usize::from(places.get());
+) -> Result<Runner<SocketWatch<H>>, ListenFault> {
+    if clients <= places {
+        return Ok(Runner::OneEach);
+    }
+    let lanes = usize::from(places);
     let watch = SocketWatch::new(rt, alloc, listener, lanes, clients, idle)?;
-    let end = run_fleet(rt, alloc, blank, queue, turns, watch)?;
-    Ok(Summary {
-        threads: end.threads,
-        clients,
-        changes: end.changes,
-    })
+    Ok(Runner::Lanes { lanes, watch })
 }
 
-/// Serves a client at each place.
-fn run_alone<H: Clock + Log + Threads + Wait + Copy + Send + Sync + 'static>(
-    rt: H,
-    alloc: Global,
-    blank: Blank,
-    queue: BlankQueue,
-    listener: Arc<Listener>,
-    full: FullLog,
-    places: PlaceCount,
-) -> Result<Summary, ListenFault>
-    requires queue { queue.places ≡ blank.places }
-    requires places { places ≡ blank.places }
-    ensures { IfOk result (λ summary. (before : List Connections) × (after : List Connections) × (version : ℕ)
-        × IsStoreRun blank.limit blank.places before after version summary.changes) }
+/// How many clients are to be served: as many as asked for and there may be lines, but at least one for each place.
+fn wanted_clients(clients: u16, places: u16) -> u16
+    requires { places < MAX_LINES }
+    ensures alone { clients ≤ places → result ≡ places }
+    ensures more { places < clients → (places < result) × (result ≤ clients) }
+    ensures least { places ≤ result }
+    ensures small { result ≤ MAX_LINES }
 {
-    let clients = u16::from(places.get());
-    let turns = turns(rt, alloc, listener, full, places, clients)?;
-    let end = run_store(rt, alloc, blank, queue, turns)?;
-    Ok(Summary {
-        threads: end.threads,
-        clients,
-        changes: end.changes,
-    })
+    if clients <= places {
+        places
+    } else if clients <= MAX_LINES {
+        clients
+    } else {
+        MAX_LINES
+    }
+}
+
+/// How many clients are served, each with a line: as many as wanted, or fewer if there are too few descriptors.
+fn line_count<H: Log>(rt: &H, clients: u16, places: u16) -> LineCount
+    requires some { 0 < places }
+    requires small { places < MAX_LINES }
+    ensures alone { clients ≤ places → result ≡ places }
+    ensures more { places < clients → (places < result) × (result ≤ clients) }
+{
+    let wanted = wanted_clients(clients, places);
+    let Some(lines) = LineCount::new(affordable(rt, wanted, places)) else {
+        unreachable!()
+    };
+    lines
 }
 
 /// How many descriptors are needed beside those of the clients: four for the listener and the standard streams, and if there are more

@@ -3,7 +3,7 @@
 mod shared;
 
 use rs_intake::blank_queue;
-use rs_message::{Found, PlaceCount};
+use rs_message::{Found, LineCount, PlaceCount};
 use rs_message_kit::set;
 use rs_pipe::OwnGate;
 use rs_session::{Gate, LocalGate};
@@ -14,7 +14,10 @@ use rs_version_kit::blank_store;
 use shared::check_shared_gates;
 use std::alloc::Global;
 use std::marker::Brand;
+use std::process::Abort;
+use std::sync::Wait;
 use std::test::Fail;
+use std::thread::Threads;
 
 /// Whether a/b is all that was found, and has x.
 fn is_x(found: &[Found]) -> bool {
@@ -65,6 +68,19 @@ pub(crate) fn local_gate<C: Catalogue>(alloc: Global) -> Result<LocalGate<C>, Fa
     Ok(LocalGate::new(alloc, limit)?)
 }
 
+/// Two gates of a store, which have so many seats.
+fn check_seats<R: Threads + Wait + Abort + Copy + Send + Sync + 'static>(
+    rt: R,
+    alloc: Global,
+    seats: u8,
+    all: &TopicFilter,
+) -> Result<(), Fail> {
+    let seats = PlaceCount::new(seats).ok_or("seats")?;
+    let lines = LineCount::new(2).ok_or("two lines")?;
+    let blank = blank_store(alloc, 7, seats)?;
+    check_shared_gates::<Brand, R>(rt, alloc, blank, blank_queue(alloc, lines)?, all)
+}
+
 #[test]
 fn each_gate_answers_what_it_took(rt: HostRuntime) -> Result<(), Fail> {
     let alloc = rt.alloc();
@@ -72,7 +88,8 @@ fn each_gate_answers_what_it_took(rt: HostRuntime) -> Result<(), Fail> {
     assert!(rt; takes_and_answers(alloc, &mut local_gate::<MapCatalogue>(alloc)?, &all));
     assert!(rt; takes_and_answers(alloc, &mut local_gate::<TreeCatalogue>(alloc)?, &all));
     assert!(rt; takes_and_answers(alloc, &mut OwnGate::new(alloc)?, &all));
-    let places = PlaceCount::new(2).ok_or("two places")?;
-    let blank = blank_store(alloc, 7, places)?;
-    check_shared_gates::<Brand, _>(rt, alloc, blank, blank_queue(alloc, places)?, &all)
+    for seats in [1, 2] {
+        check_seats(rt, alloc, seats, &all)?;
+    }
+    Ok(())
 }

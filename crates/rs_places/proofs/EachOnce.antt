@@ -5,10 +5,10 @@ use Rattle.std.proofs.lemmas.Bool.Decides.{nat_tests}
 use Rattle.std.proofs.lemmas.List.{map-append}
 use Rattle.std.proofs.lemmas.List.Elements.{filter-append}
 use Rattle.std.specs.List.{AllZip, filter}
-use Rattle.rs_line.specs.Lines.{Line, new_lines}
+use Rattle.rs_line.specs.Lines.{Line, new_line, new_lines}
 use Rattle.rs_queue.specs.Ends.{Closed}
 use Rattle.rs_intake.specs.Settling.{EachOnce, ends_at}
-use Rattle.rs_threads.specs.Places.{IsPlaceServed, Left, places_of}
+use Rattle.rs_turns.specs.Places.{IsPlaceServed, Left, places_of}
 use Rattle.rs_turns.specs.Visits.{Place}
 use Rattle.rs_places.specs.Gates.{handed_on}
 use Rattle.rs_places.specs.Store.{new_gates}
@@ -33,7 +33,7 @@ abbrev number_of : Line → ℕ
 number_of line = line.place
 
 numbers_more : (n : ℕ) → map number_of (new_lines (suc n)) ≡ map number_of (new_lines n) ++ suc n ∷ []
-numbers_more n = map-append number_of (new_lines n) (record { place = suc n; serial = 0; sent = []; heard = []; came = []; ahead = [] } ∷ [])
+numbers_more n = map-append number_of (new_lines n) (new_line (suc n) ∷ [])
 
 count_more : (n place : ℕ) → count_of place (map number_of (new_lines (suc n))) ≡ count_of place (map number_of (new_lines n)) + count_of place (suc n ∷ [])
 count_more n place = ap (count_of place) (numbers_more n) ∙ count_append place (map number_of (new_lines n)) (suc n ∷ [])

@@ -91,7 +91,7 @@ announces place serial changes ahead after (inr sent) = inl (ap operations_of se
 
 pub handed_on_is : (known : List Entry) (old new : Line) → new.place ≡ old.place → new.serial ≡ old.serial + length old.ahead → new.sent ≡ old.sent ++ old.ahead → new.ahead ≡ [] → gate_of known new ≡ handed_on known old
 handed_on_is known old new place serial sent none =
-    let G : ℕ → ℕ → List Entry → List Entry → SharedValue = λ p n l a. record { known = known; mark = record { place = p; serial = n; alone = true; sent = Some l }; pending = operations_of a } in
+    let G : ℕ → ℕ → List Entry → List Entry → SharedValue = λ p n l a. record { known = known; mark = record { place = p; serial = n; sent = Some l }; pending = operations_of a } in
     ap (λ p. G p new.serial new.sent new.ahead) place
     ∙ (ap (λ n. G old.place n new.sent new.ahead) serial
     ∙ (ap (λ l. G old.place (old.serial + length old.ahead) l new.ahead) sent
@@ -100,13 +100,13 @@ handed_on_is known old new place serial sent none =
 -- nothing of a line changed
 pub same_mark : (old new : Line) → new.place ≡ old.place → new.serial ≡ old.serial → new.sent ≡ old.sent → mark_of new ≡ mark_of old
 same_mark old new place serial sent =
-    let M : ℕ → ℕ → List Entry → Mark = λ p n l. record { place = p; serial = n; alone = true; sent = Some l } in
+    let M : ℕ → ℕ → List Entry → Mark = λ p n l. record { place = p; serial = n; sent = Some l } in
     ap (λ p. M p new.serial new.sent) place ∙ (ap (λ n. M old.place n new.sent) serial ∙ ap (λ l. M old.place old.serial l) sent)
 
 -- one serial is used at most
 pub uses_one : (old new : Line) (operation : Operation) → new.place ≡ old.place → old.serial < 2 ^ 64 → (new.serial ≡ next_serial old.serial) ⊎ IsOther old.ahead operation → (IsOther old.ahead operation → new.serial ≡ old.serial) → Uses (mark_of old) (mark_of new)
 uses_one old new operation place small (inl next) same =
-    record { place = place; alone = refl; no_lower = omega (arith, next, small); no_higher = omega (arith, next) }
+    record { place = place; no_lower = omega (arith, next, small); no_higher = omega (arith, next) }
 uses_one old new operation place small (inr other) same =
     let is = same other in
-    record { place = place; alone = refl; no_lower = omega (arith, is); no_higher = omega (arith, is) }
+    record { place = place; no_lower = omega (arith, is); no_higher = omega (arith, is) }

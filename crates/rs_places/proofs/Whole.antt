@@ -1,6 +1,6 @@
 -- From what is settled to one statement about a whole run.
 use Rattle.std.proofs.Common.{◌≡◌, ◌⊎◌, ⊎_elim, inl, inr, ℕ, zero, suc, ◌+◌, ◌==◌, ◌<◌, ◌≤◌, Bool, true, false, cond, List, [], ◌∷◌, ◌++◌, length, map, get_or, take, refl, sym, ap, subst, ◌∙◌, append_assoc, length-append, arith}
-use Rattle.std.specs.Prelude.{Option, Some, None, MatchOption}
+use Rattle.std.specs.Prelude.{Option, Some, MatchOption, slice_get}
 use Rattle.std.specs.List.{All, AllByRecursion, AllZip, filter}
 use mathlib.Core.List.{IsPrefix}
 use Rattle.std.proofs.lemmas.List.{append-nil, length-map, map-append}
@@ -8,7 +8,7 @@ use Rattle.std.proofs.lemmas.List.Elements.{All-more, recursion_from_All}
 use Rattle.rs_message.specs.declared.entry.Entry.{Entry}
 use Rattle.rs_store.specs.History.{IsLegal}
 use Rattle.rs_version.specs.Writer.{Written, kept_of}
-use Rattle.rs_line.specs.Lines.{Line, new_lines}
+use Rattle.rs_line.specs.Lines.{Line, new_line, new_lines}
 use Rattle.rs_queue.specs.Ends.{Closed}
 use Rattle.rs_queue.specs.Parts.{IsPart}
 use Rattle.rs_queue.specs.QueueRule.{of_place}
@@ -17,7 +17,7 @@ use Rattle.rs_intake.specs.Settling.{AreOfPlaces, AreTakenInOrder, EachOnce}
 use Rattle.rs_line.specs.Sweeps.{without_sweeps}
 use Rattle.rs_session.specs.Gate.{Extends, Sends}
 use Rattle.rs_turns.specs.Visits.{Place}
-use Rattle.rs_threads.specs.Places.{IsPlaceServed, Left, left_at, places_of}
+use Rattle.rs_turns.specs.Places.{IsPlaceServed, Left, left_at, places_of}
 use Rattle.rs_turns.specs.Shared.{SharedValue}
 use Rattle.rs_places.specs.Gates.{handed_on}
 use Rattle.rs_turns.specs.Within.{ArePublications}
@@ -25,8 +25,8 @@ use Rattle.rs_places.specs.Store.{IsLineOf, IsPlaceOf, IsSettled, IsStoreRun, Is
 use Rattle.rs_turns.specs.Turns.{Connections}
 use Rattle.rs_places.proofs.EachOnce.{each_once}
 use Rattle.rs_turns.proofs.Each.{each_length, each_with}
+use Rattle.rs_turns.proofs.Places.{places_length}
 use Rattle.rs_turns.proofs.Within.{all_behind, visits_send, visits_within}
-use Rattle.rs_threads.proofs.Starting.{places_length}
 
 part_behind : {A : Type 0} (xs ys : List A) (y : A) → IsPart xs ys → IsPart xs (y ∷ ys)
 part_behind [] ys y p = tt
@@ -78,7 +78,7 @@ place_sends limit place left fresh none served =
 
 -- ---- the writer, the lines and the places
 
-abbrev pub writer_run : (limit places version : ℕ) (w : Written) (entries : List Entry) (ways : List Told) → IsWritten limit places entries (kept_of w) ways → IsLegal limit (kept_of w) → AreOfPlaces places entries → version ≡ length w.published
+abbrev writer_run : (limit places version : ℕ) (w : Written) (entries : List Entry) (ways : List Told) → IsWritten limit places entries (kept_of w) ways → IsLegal limit (kept_of w) → AreOfPlaces places entries → version ≡ length w.published
     → IsWriterRun limit places version
 writer_run limit places version w entries ways written legal placed version_is = record {
   history = kept_of w;
@@ -123,25 +123,36 @@ place_of limit history entries place left legal kept served fresh known =
 
 pub new_lines_length : (places : ℕ) → length (new_lines places) ≡ places
 new_lines_length zero = refl
-new_lines_length (suc n) = let h = new_lines_length n in omega (arith, h, length-append (new_lines n) (record { place = suc n; serial = 0; sent = []; heard = []; came = []; ahead = [] } ∷ []))
+new_lines_length (suc n) = let h = new_lines_length n in omega (arith, h, length-append (new_lines n) (new_line (suc n) ∷ []))
 
-abbrev new_gate : Line → SharedValue
-new_gate line = handed_on [] line
-
-gates_length : (lines : List Line) → length (map new_gate lines) ≡ length lines
+gates_length : (lines : List Line) → length (map (λ line. handed_on [] line) lines) ≡ length lines
 gates_length [] = refl
 gates_length (line ∷ lines) = let h = gates_length lines in omega (arith, h)
 
 pub new_gates_length : (places : ℕ) → length (new_gates places) ≡ places
 new_gates_length places = gates_length (new_lines places) ∙ new_lines_length places
 
-gates_new : (seats : List (List Entry)) (lines : List Line) → length seats ≡ length lines → AllByRecursion (λ seat. seat ≡ []) seats → gates_of seats lines ≡ map new_gate lines
-gates_new [] [] same none = refl
-gates_new [] (line ∷ lines) same none = absurd (omega (arith, same))
-gates_new (seat ∷ seats) [] same none = absurd (omega (arith, same))
-gates_new (seat ∷ seats) (line ∷ lines) same none =
-    let G : List Entry → SharedValue = λ known. handed_on known line in
-    ap (λ l. G l ∷ gates_of seats lines) none.0 ∙ ap (λ l. new_gate line ∷ l) (gates_new seats lines (omega (arith, same)) none.1)
+-- ---- gates that know one list
+
+-- the gates of seats that all know one list
+pub gates_known : (known : List Entry) (seats : List (List Entry)) (lines : List Line) → length seats ≡ length lines → AllByRecursion (λ seat. seat ≡ known) seats → gates_of seats lines ≡ map (λ line. handed_on known line) lines
+gates_known known [] [] same all = refl
+gates_known known [] (line ∷ lines) same all = absurd (omega (arith, same))
+gates_known known (seat ∷ seats) [] same all = absurd (omega (arith, same))
+gates_known known (seat ∷ seats) (line ∷ lines) same all =
+    let G : List Entry → SharedValue = λ k. handed_on k line in
+    ap (λ l. G l ∷ gates_of seats lines) all.0 ∙ ap (λ l. G known ∷ l) (gates_known known seats lines (omega (arith, same)) all.1)
+
+-- the first of a list of which each is this one
+pub first_is : {A : Type 0} (known x : A) (xs : List A) → slice_get xs 0 ≡ Some x → AllByRecursion (λ y. y ≡ known) xs → x ≡ known
+first_is known x [] here all = absurd (cc (here))
+first_is known x (y ∷ ys) here all = let same = all.0 in cc (here, same)
+
+-- one more of a map
+pub next_of_map : {A B : Type 0} (f : A → B) (done more whole : List B) (new : B) (rest left : List A) (x : A)
+    → more ≡ done ++ new ∷ [] → done ++ map f rest ≡ whole → rest ≡ x ∷ left → new ≡ f x → more ++ map f left ≡ whole
+next_of_map f done more whole new rest left x pushed so_far first is =
+    ap (λ k. k ++ map f left) pushed ∙ (append_assoc done (new ∷ []) (map f left) ∙ (ap (λ y. done ++ y ∷ map f left) is ∙ (ap (λ l. done ++ map f l) (sym first) ∙ so_far)))
 
 -- the first seat that is left goes with the first line that is left
 pub next_gate : (done more whole : List SharedValue) (gate : SharedValue) (seats seats_left : List (List Entry)) (lines lines_left : List Line) (seat : List Entry) (line : Line)
@@ -158,16 +169,12 @@ no_gate done whole [] lines so_far none = sym (append-nil done) ∙ so_far
 no_gate done whole (seat ∷ seats) [] so_far none = sym (append-nil done) ∙ so_far
 no_gate done whole (seat ∷ seats) (line ∷ lines) so_far none = ⊎_elim (λ t. absurd (omega (arith, t))) (λ t. absurd (omega (arith, t))) none
 
--- the gates of new places
-pub gates_of_new : (seats : List (List Entry)) (places : ℕ) → length seats ≡ places → AllByRecursion (λ seat. seat ≡ []) seats → gates_of seats (new_lines places) ≡ new_gates places
-gates_of_new seats places same none = gates_new seats (new_lines places) (same ∙ sym (new_lines_length places)) none
-
 -- a new gate sent nothing
 lines_fresh : (places : ℕ) → AllByRecursion (λ line. line.sent ++ line.ahead ≡ []) (new_lines places)
 lines_fresh zero = tt
-lines_fresh (suc n) = all_behind (λ (line : Line). line.sent ++ line.ahead ≡ []) (new_lines n) (record { place = suc n; serial = 0; sent = []; heard = []; came = []; ahead = [] }) (lines_fresh n) refl
+lines_fresh (suc n) = all_behind (λ (line : Line). line.sent ++ line.ahead ≡ []) (new_lines n) (new_line (suc n)) (lines_fresh n) refl
 
-places_fresh : (turns : List Connections) (lines : List Line) → AllByRecursion (λ line. line.sent ++ line.ahead ≡ []) lines → AllByRecursion IsFresh (places_of turns (map new_gate lines))
+places_fresh : (turns : List Connections) (lines : List Line) → AllByRecursion (λ line. line.sent ++ line.ahead ≡ []) lines → AllByRecursion IsFresh (places_of turns (map (λ line. handed_on [] line) lines))
 places_fresh [] lines fresh = tt
 places_fresh (connections ∷ turns) [] fresh = tt
 places_fresh (connections ∷ turns) (line ∷ lines) fresh = ((ap (λ (l : List Entry). Some l) fresh.0, refl), places_fresh turns lines fresh.1)
@@ -176,11 +183,6 @@ places_fresh (connections ∷ turns) (line ∷ lines) fresh = ((ap (λ (l : List
 
 pub push_map : {A B : Type 0} (f : A → B) (xs : List A) (x : A) (ys more : List B) → more ≡ ys ++ f x ∷ [] → ys ≡ map f xs → more ≡ map f (xs ++ x ∷ [])
 push_map f xs x ys more pushed so_far = pushed ∙ (ap (λ l. l ++ f x ∷ []) so_far ∙ sym (map-append f xs (x ∷ [])))
-
--- one more of each, seen as the same
-pub map_more : {A B C : Type 0} (f : A → C) (g : B → C) (xs more : List A) (x : A) (ys : List B) (y : B) → more ≡ xs ++ x ∷ [] → map f xs ≡ map g ys → f x ≡ g y → map f more ≡ map g (ys ++ y ∷ [])
-map_more f g xs more x ys y pushed so_far same =
-    ap (map f) pushed ∙ (map-append f xs (x ∷ []) ∙ (ap (λ l. l ++ f x ∷ []) so_far ∙ (ap (λ z. map g ys ++ z ∷ []) same ∙ sym (map-append g ys (y ∷ [])))))
 
 pub all_done : {A : Type 0} (xs rest whole : List A) → xs ++ rest ≡ whole → length rest ≡ 0 → xs ≡ whole
 all_done xs [] whole so_far none = sym (append-nil xs) ∙ so_far
@@ -200,21 +202,6 @@ all_both : {E A B : Type 0} (f : E → A) (P : E → Type 0) (C : A → Type 0) 
 all_both f P C g Q to [] first second = tt
 all_both f P C g Q to (e ∷ es) first second = (to e first.0 second.0, all_both f P C g Q to es first.1 second.1)
 
-pub all_seen : {E B : Type 0} (g : E → B) (P : E → Type 0) (Q : B → Type 0) → ((e : E) → P e → Q (g e)) → (es : List E) → AllByRecursion P es → AllByRecursion Q (map g es)
-all_seen g P Q to [] all = tt
-all_seen g P Q to (e ∷ es) all = (to e all.0, all_seen g P Q to es all.1)
-
-seen_back : {E B : Type 0} (g : E → B) (P : B → Type 0) (es : List E) → AllByRecursion P (map g es) → AllByRecursion (λ e. P (g e)) es
-seen_back g P [] all = tt
-seen_back g P (e ∷ es) all = (all.0, seen_back g P es all.1)
-
--- what holds of each of a list holds of each of another that is seen as the same
-pub all_as_seen : {A B X : Type 0} (f : A → X) (g : B → X) (P : X → Type 0) (xs : List A) (ys : List B) → map f xs ≡ map g ys → All (λ a. P (f a)) xs → AllByRecursion (λ b. P (g b)) ys
-all_as_seen {A} {B} {X} f g P xs ys same all =
-    let Q : List X → Type 0 = λ l. AllByRecursion P l in
-    let R : A → Type 0 = λ a. P (f a) in
-    seen_back g P ys (subst Q same (all_seen f R P (λ a p. p) xs (recursion_from_All R xs all)))
-
 -- ---- one end after the other
 
 pub known_more : {A : Type 0} (xs ys : List A) (P : A → Type 0) (i : ℕ) (x : A) → xs ≡ ys → i < length ys → x ≡ get_or xs i x → P x → All P (take i ys) → All P (take (i + 1) ys)
@@ -229,43 +216,46 @@ take_whole (suc i) (y ∷ ys) few = ap (λ l. y ∷ l) (take_whole i ys (omega (
 pub known_all : {A : Type 0} (ys : List A) (P : A → Type 0) (i : ℕ) → length ys ≤ i → All P (take i ys) → All P ys
 known_all {A} ys P i few all = let Q : List A → Type 0 = λ l. All P l in subst Q (take_whole i ys few) all
 
-none_more : {A : Type 0} (o : Option A) (N M : Type 0) (P : A → Type 0) → (N → M) → MatchOption o N P → MatchOption o M P
-none_more None N M P to h = to h
-none_more (Some x) N M P to h = h
-
 -- ---- the run
+
+-- each place has the end of one line, once the turns were served over new gates
+pub ends_once : {T E : Type 0} (turns : List T) (ends : List E) (connections : T → Connections) (turn : E → T) (told : E → List Entry) (line : E → Closed) (limit places : ℕ) (gates : List SharedValue)
+    → gates ≡ new_gates places → length turns ≡ places → AllZip (IsPlaceServed limit) (places_of (map connections turns) gates) (map (λ e. left_at (connections (turn e)) (told e) (line e)) ends)
+    → EachOnce places (map line ends)
+ends_once {T} {E} turns ends connections turn told line limit places gates new turns_count served =
+    let h : E → Left = λ e. left_at (connections (turn e)) (told e) (line e) in
+    let before = map connections turns in
+    let P : List SharedValue → Type 0 = λ l. AllZip (IsPlaceServed limit) (places_of before l) (map h ends) in
+    let Q : List Closed → Type 0 = λ l. EachOnce places l in
+    subst Q (map_map (λ (end : Left). end.line) h ends) (each_once limit places before (map h ends) (length-map turns connections ∙ (turns_count ∙ sym (new_lines_length places))) (subst P new served))
 
 -- a run of a store with a turn for each place
 pub store_run : {T E : Type 0} (turns : List T) (ends : List E) (connections : T → Connections) (turn : E → T) (told : E → List Entry) (line : E → Closed) (own limit places : ℕ) (turns_left : List T)
-    (seats : List (List Entry)) (lines : List Line) (gates : List SharedValue) (closed : List Closed) (w : Written) (entries : List Entry) (ways : List Told) (version : ℕ) (changes : Option ℕ)
-    → own ≡ limit → length seats ≡ places → All (λ seat. seat ≡ []) seats → lines ≡ new_lines places → gates ≡ gates_of seats lines → length turns ≡ places
+    (gates : List SharedValue) (w : Written) (entries : List Entry) (ways : List Told) (version : ℕ) (changes : Option ℕ)
+    → own ≡ limit → gates ≡ new_gates places → length turns ≡ places
     → AllZip (IsPlaceServed limit) (places_of (map connections turns) gates) (map (λ e. left_at (connections (turn e)) (told e) (line e)) ends)
-    → IsWritten limit places entries (kept_of w) ways → IsLegal limit (kept_of w) → AllByRecursion (λ e. IsPrefix (told e) (kept_of w)) ends
-    → closed ≡ map line ends → AreTakenInOrder entries closed → MatchOption changes (EachOnce places closed → IsUnsettled entries closed) (IsSettled places entries closed)
+    → IsWritten limit places entries (kept_of w) ways → IsLegal limit (kept_of w) → All (λ e. IsPrefix (told e) (kept_of w)) ends
+    → AreTakenInOrder entries (map line ends) → MatchOption changes (IsUnsettled entries (map line ends)) (IsSettled places entries (map line ends))
     → AreOfPlaces places entries → version ≡ length w.published → turns_left ≡ map turn ends
     → IsStoreRun own places (map connections turns) (map connections turns_left) version changes
-store_run {T} {E} turns ends connections turn told line own limit places turns_left seats lines gates closed w entries ways version changes same count none lines_is gates_is turns_count served written legal known closed_is taken settled placed version_is left_is =
+store_run {T} {E} turns ends connections turn told line own limit places turns_left gates w entries ways version changes same new turns_count served written legal known taken settled placed version_is left_is =
     let history = kept_of w in
     let kept = written_part limit places entries history ways written in
     let h : E → Left = λ e. left_at (connections (turn e)) (told e) (line e) in
     let left = map h ends in
-    let new : gates ≡ new_gates places =
-    gates_is ∙ (ap (λ l. gates_of seats l) lines_is ∙ gates_of_new seats places count (recursion_from_All (λ seat. seat ≡ []) seats none)) in
     let after : map connections turns_left ≡ map (λ end. end.connections) left =
     ap (map connections) left_is ∙ (map_map connections turn ends ∙ sym (map_map (λ (end : Left). end.connections) h ends)) in
-    let lines_left : closed ≡ map (λ end. end.line) left = closed_is ∙ sym (map_map (λ (end : Left). end.line) h ends) in
+    let lines_left : map line ends ≡ map (λ end. end.line) left = sym (map_map (λ (end : Left). end.line) h ends) in
     let K : E → Type 0 = λ e. IsPrefix (told e) history in
     let C : Closed → Type 0 = λ e. IsPrefix (of_place e.place entries) e.sent in
-    let D : List Closed → Type 0 = λ l. All C l in
     let both : AllByRecursion (IsKnown history entries) left =
-    all_both line K C h (IsKnown history entries) (λ e k c. ((k.0, sym k.1), (c.0, sym c.1))) ends known (recursion_from_All C (map line ends) (subst D closed_is taken)) in
+    all_both line K C h (IsKnown history entries) (λ e k c. ((k.0, sym k.1), (c.0, sym c.1))) ends (recursion_from_All K ends known) (recursion_from_All C (map line ends) taken) in
     let before = map connections turns in
     let P : List SharedValue → Type 0 = λ l. AllZip (IsPlaceServed limit) (places_of before l) left in
     let gates_count : length gates ≡ places = ap length new ∙ new_gates_length places in
     let all = places_length before gates (length-map turns connections ∙ (turns_count ∙ sym gates_count)) in
     let each = each_length (IsPlaceServed limit) (places_of before gates) left served in
-    let once = each_once limit places before left (length-map turns connections ∙ (turns_count ∙ sym (new_lines_length places))) (subst P new served) in
-    let S : List Closed → Type 0 = λ l. MatchOption changes (EachOnce places l → IsUnsettled entries l) (IsSettled places entries l) in
+    let S : List Closed → Type 0 = λ l. MatchOption changes (IsUnsettled entries l) (IsSettled places entries l) in
     let R : ℕ → Type 0 = λ l. IsStoreRun l places before (map connections turns_left) version changes in
     subst R (sym same) (record {
       writer = writer_run limit places version w entries ways written legal placed version_is;
@@ -274,5 +264,5 @@ store_run {T} {E} turns ends connections turn told line own limit places turns_l
           (places_of before (new_gates places)) left (subst P new served) (places_fresh before (new_lines places) (lines_fresh places)) both;
       count = omega (arith, each, all, gates_count);
       turns = after;
-      settled = none_more changes _ _ _ (λ unsettled. unsettled once) (subst S lines_left settled);
+      settled = subst S lines_left settled;
     })

@@ -1,5 +1,5 @@
--- What contracts see of a gate over a seat and its line.
-use Rattle.std.specs.Prelude.{◌≢◌, ◌+◌, ◌++◌, ◌∷◌, true, List, [], length, Some}
+-- What contracts see of a gate that knows a list, over a line.
+use Rattle.std.specs.Prelude.{◌≢◌, ◌+◌, ◌++◌, ◌∷◌, List, [], length, Some}
 use Rattle.rs_message.specs.declared.entry.Entry.{Entry}
 use Rattle.rs_message.specs.declared.entry.Operation.{Operation}
 use Rattle.rs_line.specs.Lines.{Line}
@@ -8,7 +8,7 @@ use Rattle.rs_turns.specs.Shared.{SharedValue, operations_of}
 
 -- the mark of a line, without what is ahead of it
 abbrev pub mark_of : Line → Mark
-mark_of line = record { place = line.place; serial = line.serial; alone = true; sent = Some line.sent }
+mark_of line = record { place = line.place; serial = line.serial; sent = Some line.sent }
 
 abbrev pub gate_of : List Entry → Line → SharedValue
 gate_of known line = record { known = known; mark = mark_of line; pending = operations_of line.ahead }
@@ -17,7 +17,7 @@ gate_of known line = record { known = known; mark = mark_of line; pending = oper
 abbrev pub handed_on : List Entry → Line → SharedValue
 handed_on known line = record {
   known = known;
-  mark = record { place = line.place; serial = line.serial + length line.ahead; alone = true; sent = Some (line.sent ++ line.ahead) };
+  mark = record { place = line.place; serial = line.serial + length line.ahead; sent = Some (line.sent ++ line.ahead) };
   pending = [];
 }
 

@@ -1,4 +1,4 @@
--- A whole run of a store: its places, and the one history that they all saw.
+-- A whole run of a store: its clients, each with a line of its own, whose number is its place, and the one history that they all saw.
 use Rattle.std.specs.Prelude.{◌≡◌, ℕ, List, [], ◌∷◌, ◌++◌, length, map, Option, MatchOption}
 use Rattle.std.specs.List.{AllZip}
 use Rattle.rs_message.specs.declared.entry.Entry.{Entry}
@@ -13,7 +13,7 @@ use Rattle.rs_queue.specs.Parts.{IsPart}
 use Rattle.rs_queue.specs.QueueRule.{of_place}
 use Rattle.rs_session.specs.Gate.{Extends}
 use Rattle.rs_places.specs.Gates.{handed_on}
-use Rattle.rs_threads.specs.Places.{IsPlaceServed, Left, places_of}
+use Rattle.rs_turns.specs.Places.{IsPlaceServed, Left, places_of}
 use Rattle.rs_turns.specs.Shared.{SharedValue}
 use Rattle.rs_turns.specs.Turns.{Connections}
 use Rattle.rs_turns.specs.Visits.{Place}
@@ -83,8 +83,9 @@ pub record IsWriterRun (limit places version : ℕ) : Type 0 where
   -- so of each place it has what was taken of the place less what was refused
   pub not_refused_of : (place : ℕ) → of_place place (without_sweeps history) ≡ of_place place (not_refused taken written.outcomes)
 
--- A store of so many new places was run. Each place served its turn, from that before to that after; the writer published so many
--- entries; and so many changes are settled, or it is known that not all were taken.
+-- A store of so many new places was run, each of them a client's line. Each place served its turn, from that before to that after; the
+-- writer published so many entries; and so many changes are settled, or it is known that not all were taken. Nothing is said of seats and of
+-- threads, of which there may be fewer.
 pub record IsStoreRun (limit places : ℕ) (before after : List Connections) (version : ℕ) (changes : Option ℕ) : Type 0 where
   -- the history, and what the writer took and published
   pub writer : IsWriterRun limit places version

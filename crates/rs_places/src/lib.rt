@@ -1,12 +1,13 @@
-//! Places of a store with one client at a time each: the gate of a place, which hands changes to the writer by the place's line and reads
-//! by the place's seat ([`SharedGate`]), and the run of a whole store: its writer and its places, from the first connection to the last
-//! ([`run_store`]). The contract of the run is one statement.
+//! Clients of a store, each with a line of its own to the writer: the gate of a client, which hands changes over by the line, and reads by
+//! a seat of its own or by one that others use too ([`SharedGate`], [`Seats`]); and the run of a whole store: its writer and its clients,
+//! from the first connection to the last ([`run_store`]). The contract of the run is one statement, for every server.
 #![tactic(auto)]
 
+mod seats;
 mod settling;
 mod shared_gate;
 mod store;
 
-pub use settling::{cover_all, settle_run};
+pub use seats::Seats;
 pub use shared_gate::SharedGate;
-pub use store::{PutsJobs, StoreEnd, WriterThread, open_gates, run_store, start_writer};
+pub use store::{StoreEnd, open_gates, run_store};

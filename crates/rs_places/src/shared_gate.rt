@@ -1,11 +1,12 @@
-//! A gate over a seat and its line.
+//! A gate over a line of its own.
 
-ghost use Rattle.std.specs.Prelude.{◌≡◌, ◌<◌, ◌≤◌, ◌⊎◌, ◌∷◌, [], List, false, length, refl, Err, OnOk, Some};
+ghost use Rattle.std.specs.Prelude.{◌≡◌, ◌<◌, ◌≤◌, ◌⊎◌, ◌∷◌, [], List, false, length, refl, Err, IfOk, OnOk, Some};
+ghost use mathlib.Core.List.{IsPrefix};
 ghost use Rattle.rs_queue.specs.Changes.{AreOfLine};
 ghost use Rattle.rs_line.specs.Lines.{next_serial};
 ghost use Rattle.rs_queue.specs.Ends.{IsClosed};
 ghost use Rattle.rs_message.specs.declared.entry.Entry.{Entry};
-ghost use Rattle.rs_message.specs.declared.entry.TheConstants.{MAX_PLACES};
+ghost use Rattle.rs_message.specs.declared.entry.TheConstants.{MAX_LINES};
 ghost use Rattle.rs_message.specs.declared.fault.SubmitFault.TheVariants.{Strange};
 ghost use Rattle.rs_message.specs.Messages.{is_sweep};
 ghost use Rattle.rs_turns.specs.Shared.{HandsOn, Knows, operations_of};
@@ -13,29 +14,32 @@ ghost use Rattle.rs_places.specs.Gates.{IsOtherPending, handed_on};
 ghost use Rattle.rs_session.specs.Gate.{Grows, Sends, SendsAtMost, Submits, TakesPending, Uses, entry_by};
 ghost use Rattle.rs_store.specs.History.{IsLegal};
 
+use crate::seats::{Reads, Seats};
 use rs_line::{Intake, LineEnd, LineName, SeatLine};
 use rs_message::{Found, Operation, SubmitFault};
 use rs_queue::MAX_CHANGES;
 use rs_session::Gate;
 use rs_topic::TopicFilter;
 use rs_turns::{LineGate, StoreGate};
-use rs_version::{Seat, Told};
+use rs_version::{Seat, StoreName, Told, Version};
 use std::alloc::AllocError;
 use std::marker::Model;
 use std::sync::{Arc, Wait};
 
-/// A place's gate to a store that other places use too. It stands for the seat's known list, which is legal, and for no other.
+/// A client's gate to a store that other clients use too. It stands for the list that it knows, which is legal, and for no other.
 ///
 /// The changes that it is told to expect go to the writer at once, in one job, if memory allows, and the outcome of each is told when its
 /// own submit comes.
 ///
 /// It keeps the handle `rt`, by which changes wait for space in the queue, a submit for its receipt, and `hand_on` for the replies to what
-/// was sent ahead. An answer to a filter waits for nobody.
+/// was sent ahead. An answer to a filter waits for nobody, if the gate has a seat of its own. If it shares seats, and all are taken, the
+/// answer waits until one is free, which takes as long as a count.
 #[derive(Drop)]
 pub struct SharedGate<N: LineName, R: Wait + Copy> {
     rt: R,
     intake: Arc<Intake<N>>,
-    seat: Seat<N>,
+    known: Told<N>,
+    reads: Reads<N>,
     line: SeatLine<N>,
 }
 
@@ -46,28 +50,75 @@ impl<N: LineName, R: Wait + Copy> Model for SharedGate<N, R> {
 
     ghost Value = { SharedValue };
 
-    ghost view = { λ g. gate_of g.seat g.line };
+    ghost view = { λ g. gate_of g.known g.line };
 
-    ghost invariant = { λ g. IsLegal N.limit g.seat };
+    ghost invariant = { λ g. IsLegal N.limit g.known };
+}
+
+/// Makes the token that of the longer list of the two.
+fn learn<N: StoreName>(known: &mut Told<N>, told: Told<N>)
+    ensures one { (known.new ≡ known.old) ⊎ (known.new ≡ told) }
+    ensures own { IsPrefix known.old known.new }
+    ensures told { IsPrefix told known.new }
+    ensures legal { IsLegal N.limit known.new }
+{
+    if !known.reaches(&told) {
+        *known = told;
+    }
 }
 
 impl<N: LineName, R: Wait + Copy> SharedGate<N, R> {
-    /// A gate that knows what the seat knows, and goes on with the line's place and serial, as if the line were handed on
-    /// ([`hand_on`](LineGate::hand_on)). Any seat of the store will do: a seat has no place. It waits for the writer only if something
+    /// A gate with a seat of its own. It knows what the seat knows, and goes on with the line's place and serial, as if the line were handed
+    /// on ([`hand_on`](LineGate::hand_on)). Any seat of the store will do: a seat has no place. It waits for the writer only if something
     /// is ahead of the line.
     pub fn new(rt: R, intake: Arc<Intake<N>>, seat: Seat<N>, line: SeatLine<N>) -> SharedGate<N, R>
         ensures gate { result ≡ handed_on seat line }
         ensures legal { IsLegal N.limit result.known }
     {
-        // For the proof: this call says that the seat's list is legal.
-        let _version = seat.version();
+        let known = seat.told();
+        SharedGate::over(rt, intake, known, Reads::Alone(seat), line)
+    }
+
+    /// A gate that reads by seats that other gates use too, and looks first at the one of the number `index`. It knows the token's list,
+    /// and goes on with the line as [`new`](SharedGate::new) does.
+    pub fn sharing(
+        rt: R,
+        intake: Arc<Intake<N>>,
+        seats: Arc<Seats<N>>,
+        index: usize,
+        known: Told<N>,
+        line: SeatLine<N>,
+    ) -> SharedGate<N, R>
+        ensures gate { result ≡ handed_on known line }
+        ensures legal { IsLegal N.limit result.known }
+    {
+        let mut line = line;
+        line.share();
+        let reads = Reads::Among { seats, from: index };
+        SharedGate::over(rt, intake, known, reads, line)
+    }
+
+    /// A gate that knows this list, reads so, and goes on with this line.
+    fn over(
+        rt: R,
+        intake: Arc<Intake<N>>,
+        known: Told<N>,
+        reads: Reads<N>,
+        line: SeatLine<N>,
+    ) -> SharedGate<N, R>
+        ensures gate { result ≡ handed_on known line }
+        ensures legal { IsLegal N.limit result.known }
+    {
+        // For the proof: this call says that the known list is legal.
+        let _version = known.version();
         let mut line = line;
         // If the writer is gone, no reply is left for a later submit.
         drop(line.hand_on(&rt));
         SharedGate {
             rt,
             intake,
-            seat,
+            known,
+            reads,
             line,
         }
     }
@@ -77,7 +128,19 @@ impl<N: LineName, R: Wait + Copy> SharedGate<N, R> {
         ensures version { result ≡ length self.now.known }
         ensures legal { IsLegal N.limit self.now.known }
     {
-        self.seat.version()
+        self.known.version()
+    }
+
+    /// The version that is published, which has all that was known. Its list is known from then on.
+    fn read(&mut self) -> Result<Version<N>, AllocError>
+        ensures longer { IsPrefix self.old.known self.new.known }
+        ensures legal { IsLegal N.limit self.new.known }
+        ensures version { IfOk result (λ version. version ≡ self.new.known) }
+        ensures same { (self.new.mark ≡ self.old.mark) × (self.new.pending ≡ self.old.pending) }
+    {
+        let version = self.reads.read(&self.rt, self.known.again())?;
+        self.known = version.told();
+        Ok(version)
     }
 }
 
@@ -98,7 +161,7 @@ impl<N: LineName, R: Wait + Copy> Gate for SharedGate<N, R> {
         MAX_CHANGES
     }
 
-    /// The line sends the changes at once, if nothing is ahead of it, so that the writer works on them while the place goes on. The packet
+    /// The line sends the changes at once, if nothing is ahead of it, so that the writer works on them while the client's thread goes on. The packet
     /// of each lies whole in the buffer, so it is submitted, unless the session ends before. Then it may be an entry, as any publication
     /// that was not acknowledged.
     fn expect(&mut self, changes: Vec<Operation>) {
@@ -110,7 +173,7 @@ impl<N: LineName, R: Wait + Copy> Gate for SharedGate<N, R> {
         self.line.has_ahead()
     }
 
-    /// Hands the change to the writer and waits for the receipt. The seat learns its token before `Ok` is answered. Beside what each
+    /// Hands the change to the writer and waits for the receipt. The list of its token is known before `Ok` is answered. Beside what each
     /// gate promises, the line sent at most this change, under the next serial, and at `Ok` it did; or another change was sent ahead,
     /// and then nothing is done, and the answer is `Strange`.
     fn submit(&mut self, operation: Operation) -> Result<(), SubmitFault>
@@ -126,27 +189,25 @@ impl<N: LineName, R: Wait + Copy> Gate for SharedGate<N, R> {
         // For the proof: this call says that the serial is a u64.
         let _serial = self.line.serial();
         let receipt = self.intake.submit(&self.rt, &mut self.line, operation)?;
-        self.seat.learn(receipt.told());
+        learn(&mut self.known, receipt.told());
         Ok(())
     }
 
-    /// Answers from a published version, without waiting.
+    /// Answers from the published version.
     fn answer(&mut self, filter: &TopicFilter, now: u64) -> Result<Vec<Found>, AllocError> {
-        let snapshot = self.seat.answer(filter, now)?;
-        Ok(snapshot.found)
+        let version = self.read()?;
+        version.answer(filter, now)
     }
 
-    /// Answers from a published version, without waiting, if there are at most `room` messages.
+    /// Answers from the published version, if there are at most `room` messages.
     fn answer_within(
         &mut self,
         filter: &TopicFilter,
         now: u64,
         room: usize,
     ) -> Result<Option<Vec<Found>>, AllocError> {
-        match self.seat.answer_within(filter, now, room)? {
-            Some(snapshot) => Ok(Some(snapshot.found)),
-            None => Ok(None),
-        }
+        let version = self.read()?;
+        version.answer_within(filter, now, room)
     }
 }
 
@@ -155,18 +216,18 @@ impl<N: LineName, R: Wait + Copy> StoreGate for SharedGate<N, R> {
 
     ghost shared = { λ gate. gate };
 
-    /// 1 to the number of places.
-    fn place(&self) -> u8
+    /// The number of the line, 1 to how many there are.
+    fn place(&self) -> u16
         ensures place { result ≡ self.now.mark.place }
         ensures some { 0 < result }
         ensures there { result ≤ N.places }
-        ensures small { result ≤ MAX_PLACES }
+        ensures small { result ≤ MAX_LINES }
     {
         self.line.place()
     }
 
     fn told(&self) -> Told<N> {
-        self.seat.told()
+        self.known.again()
     }
 
     ghost knows = { λ gate list known. known };
@@ -194,7 +255,8 @@ impl<N: LineName, R: Wait + Copy> LineGate for SharedGate<N, R> {
         let SharedGate {
             rt,
             intake: _intake,
-            seat: _seat,
+            known: _known,
+            reads: _reads,
             line,
         } = self;
         line.close(&rt)

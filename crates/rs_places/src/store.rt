@@ -1,16 +1,21 @@
-//! A whole store: its writer and its places, each on a thread of its own, from the first connection to the settlement.
+//! A whole store: its writer on a thread of its own, and its clients, each with a line of its own, from the first connection to the
+//! settlement.
 
-ghost use Rattle.std.specs.Prelude.{◌≡◌, ◌≤◌, IfOk, [], length, map};
+ghost use Rattle.std.specs.Prelude.{◌≡◌, [], IfOk, All, List, length, map};
+ghost use Rattle.rs_message.specs.declared.entry.Entry.{Entry};
+ghost use Rattle.rs_places.specs.Gates.{handed_on};
 ghost use Rattle.rs_places.specs.Store.{IsStoreRun, gates_of};
 ghost use Rattle.rs_version.specs.Writer.{kept_of};
 
-use crate::settling::{part_ends, settle_run};
+use crate::seats::Seats;
+use crate::settling::settle_run;
 use crate::shared_gate::SharedGate;
 use rs_intake::{BlankQueue, Ended, Queue, run_writer};
 use rs_line::{Intake, LineName, SeatLine};
-use rs_threads::{PlacesEnd, run_places};
-use rs_turns::{StoreFault, Turn};
-use rs_version::{Blank, Seat, VersionWriter};
+use rs_pool::{Runner, Watch};
+use rs_steps::run_places;
+use rs_turns::{PlacesEnd, StoreFault, Turn};
+use rs_version::{Blank, Seat, Told, VersionWriter};
 use std::alloc::{AllocError, Global};
 use std::marker::Brand;
 use std::sync::{Arc, Wait};
@@ -21,29 +26,24 @@ use std::thread::{Promise, PromisedHandle, Threads, spawn_with};
 pub struct StoreEnd<T> {
     /// The turns, in their order.
     pub turns: Vec<T>,
-    /// How many places had a thread of their own.
+    /// How many threads there were for the clients, or how many lanes that had threads.
     pub threads: usize,
     /// How many entries were published.
     pub version: u64,
-    /// How many changes the places sent to the writer, refused ones too. None if not all are known to be taken.
+    /// How many changes the clients sent to the writer, refused ones too. None if not all are known to be taken.
     pub changes: Option<u64>,
 }
 
-/// A gate for each seat and its line.
-///
-/// # Errors
-///
-/// [`AllocError`] if memory is refused.
-pub fn open_gates<N: LineName, H: Wait + Copy>(
+/// A gate for each line and its seat.
+fn own_gates<N: LineName, H: Wait + Copy>(
     rt: H,
     alloc: Global,
-    intake: Intake<N>,
+    intake: Arc<Intake<N>>,
     seats: Vec<Seat<N>>,
     lines: Vec<SeatLine<N>>,
 ) -> Result<Vec<SharedGate<N, H>>, AllocError>
     ensures { IfOk result (λ gates. gates.items ≡ gates_of seats.items lines.items) }
 {
-    let intake = Arc::new(alloc, intake).map_err(|_| AllocError)?;
     let mut gates = Vec::new(alloc);
     for (seat, line) in seats.into_iter().zip(lines) {
         let intake = Arc::try_clone(&intake)?;
@@ -54,10 +54,64 @@ pub fn open_gates<N: LineName, H: Wait + Copy>(
     Ok(gates)
 }
 
-/// What the writer's thread promises: the list that it keeps came to be by the outcomes of the entries that it took, each place was told
-/// those of its own entries, and these are of its places alone.
+/// A gate for each line. They share the seats, and know the token's list. The first looks first at the first seat, and so on.
+fn sharing_gates<N: LineName, H: Wait + Copy>(
+    rt: H,
+    alloc: Global,
+    intake: Arc<Intake<N>>,
+    seats: Arc<Seats<N>>,
+    known: Told<N>,
+    lines: Vec<SeatLine<N>>,
+) -> Result<Vec<SharedGate<N, H>>, AllocError>
+    ensures { IfOk result (λ gates. gates.items ≡ map (λ line. handed_on known line) lines.items) }
+{
+    let mut gates = Vec::new(alloc);
+    let mut index = 0usize;
+    for line in lines {
+        let intake = Arc::try_clone(&intake)?;
+        let seats = Arc::try_clone(&seats)?;
+        let gate = SharedGate::sharing(rt, intake, seats, index, known.again(), line);
+        let Ok(()) = gates.push(gate) else {
+            return Err(AllocError);
+        };
+        index = index.saturating_add(1);
+    }
+    Ok(gates)
+}
+
+/// A gate for each line. If there are as many seats, each gate has one of its own. Otherwise they share the seats.
+///
+/// # Errors
+///
+/// [`AllocError`] if memory is refused, or if there are lines and no seat.
+pub fn open_gates<N: LineName, H: Wait + Copy>(
+    rt: H,
+    alloc: Global,
+    intake: Intake<N>,
+    seats: Vec<Seat<N>>,
+    lines: Vec<SeatLine<N>>,
+) -> Result<Vec<SharedGate<N, H>>, AllocError>
+    ensures own { IfOk result (λ gates. length seats.items ≡ length lines.items → gates.items ≡ gates_of seats.items lines.items) }
+    ensures same { IfOk result (λ gates. (known : List Entry) → All (λ seat. seat ≡ known) seats.items
+        → gates.items ≡ map (λ line. handed_on known line) lines.items) }
+{
+    let intake = Arc::new(alloc, intake).map_err(|_| AllocError)?;
+    if seats.len() == lines.len() {
+        return own_gates(rt, alloc, intake, seats, lines);
+    }
+    let Some(first) = seats.first() else {
+        // Never: a store has a seat at least.
+        return Err(AllocError);
+    };
+    let known = first.told();
+    let seats = Arc::new(alloc, Seats::new(alloc, seats)?).map_err(|_| AllocError)?;
+    sharing_gates(rt, alloc, intake, seats, known, lines)
+}
+
+/// What the writer's thread promises: the list that it keeps came to be by the outcomes of the entries that it took, each line was told
+/// those of its own entries, and these are of its lines alone.
 #[derive(Drop)]
-pub struct PutsJobs;
+struct PutsJobs;
 
 impl<N: LineName, R: Wait + Drop> Promise<Ended<N, R>> for PutsJobs {
     ghost use Rattle.rs_line.specs.Done.{IsWritten};
@@ -69,10 +123,10 @@ impl<N: LineName, R: Wait + Drop> Promise<Ended<N, R>> for PutsJobs {
 }
 
 /// The writer's thread.
-pub type WriterThread<N, H> = PromisedHandle<Ended<N, H>, PutsJobs>;
+type WriterThread<N, H> = PromisedHandle<Ended<N, H>, PutsJobs>;
 
 /// Starts the writer's thread, which runs [`run_writer`]. None if it cannot be started: the writer and the queue are dropped then.
-pub fn start_writer<
+fn start_writer<
     N: LineName + Send + Sync + 'static,
     H: Threads + Wait + Copy + Send + Sync + 'static,
 >(rt: H, queue: Queue<N>, writer: VersionWriter<N, H>) -> Option<WriterThread<N, H>>
@@ -81,57 +135,64 @@ pub fn start_writer<
     spawn_with(&rt, PutsJobs, move || run_writer(&rt, queue, writer)).ok()
 }
 
-/// Runs a store that is empty at first: serves a turn at each of its places, each place on a thread of its own, as
-/// [`run_places`] does, with the writer on one more, and settles. The first turn goes with place 1, and so on.
+/// Runs a store that is empty at first: serves a turn for each client, as [`run_places`] does with this runner, with the writer on a thread
+/// of its own, and settles. Each client has a line of its own, whose number is its place: the first turn goes with place 1, and so on. The
+/// clients read by the seats of `blank`. If there are as many as clients, each has one, and otherwise they share them.
 ///
 /// The contract is one statement about the run, `IsStoreRun`: there is one legal history, which came to be by the outcomes of the
 /// entries that the writer took, all from these places, and published, but for its last entry, if that is held; all lists that any
-/// connection of any place was answered from are prefixes of it; each retained publication that any client was told is stored stands in it
-/// once; each place served all connections of its turn, over their own bytes and at their own times; what a place sent are their retained
-/// publications, in order; and if the changes are given, all of it was taken, once.
+/// connection of any client was answered from are prefixes of it; each retained publication that any client was told is stored stands in it
+/// once; each client served all connections of its turn, over their own bytes and at their own times; what a client sent are their retained
+/// publications, in order; and if the changes are given, all of it was taken, once. It says the same whoever serves the clients, and however
+/// many seats there are.
 ///
 /// # Errors
 ///
-/// [`StoreFault`]. No connection was served.
-pub fn run_store<T: Turn + Send + Drop + 'static, H: Threads + Wait + Copy + Send + Sync + 'static>(
-    rt: H,
-    alloc: Global,
-    blank: Blank,
-    queue: BlankQueue,
-    turns: Vec<T>,
-) -> Result<StoreEnd<T>, StoreFault>
-where
-    T::In: Send,
-    T::Out: Send,
-    T::Time: Send,
-    requires places { queue.places ≡ blank.places }
-    requires turns { length turns.items ≡ blank.places }
-    ensures { IfOk result (λ end. IsStoreRun blank.limit blank.places (map T.connections turns.items)
-        (map T.connections end.turns.items) end.version end.changes) }
-{
-    run_named::<Brand, T, H>(rt, alloc, blank, queue, turns)
-}
-
-fn run_named<
-    N: LineName + Send + Sync + 'static,
+/// [`StoreFault`]. No connection was served then, as the code is made; no clause says so.
+pub fn run_store<
     T: Turn + Send + Drop + 'static,
     H: Threads + Wait + Copy + Send + Sync + 'static,
+    W: Watch<T::In> + Send + Sync + Drop + 'static,
 >(
     rt: H,
     alloc: Global,
     blank: Blank,
     queue: BlankQueue,
     turns: Vec<T>,
+    runner: Runner<W>,
 ) -> Result<StoreEnd<T>, StoreFault>
 where
-    T::In: Send,
-    T::Out: Send,
-    T::Time: Send,
+    T::In: Send + 'static,
+    T::Out: Send + 'static,
+    T::Time: Send + 'static,
+    requires { queue.places ≡ length turns.items }
+    ensures { IfOk result (λ end. IsStoreRun blank.limit queue.places (map T.connections turns.items)
+        (map T.connections end.turns.items) end.version end.changes) }
+{
+    run_named::<Brand, T, H, W>(rt, alloc, blank, queue, turns, runner)
+}
+
+fn run_named<
+    N: LineName + Send + Sync + 'static,
+    T: Turn + Send + Drop + 'static,
+    H: Threads + Wait + Copy + Send + Sync + 'static,
+    W: Watch<T::In> + Send + Sync + Drop + 'static,
+>(
+    rt: H,
+    alloc: Global,
+    blank: Blank,
+    queue: BlankQueue,
+    turns: Vec<T>,
+    runner: Runner<W>,
+) -> Result<StoreEnd<T>, StoreFault>
+where
+    T::In: Send + 'static,
+    T::Out: Send + 'static,
+    T::Time: Send + 'static,
     requires store { (blank.history ≡ N.history) × (blank.limit ≡ N.limit) }
     requires queue { (queue.name ≡ N.queue) × (queue.places ≡ N.places) }
-    requires places { queue.places ≡ blank.places }
-    requires turns { length turns.items ≡ blank.places }
-    ensures { IfOk result (λ end. IsStoreRun blank.limit blank.places (map T.connections turns.items)
+    requires turns { queue.places ≡ length turns.items }
+    ensures { IfOk result (λ end. IsStoreRun blank.limit queue.places (map T.connections turns.items)
         (map T.connections end.turns.items) end.version end.changes) }
 {
     let (writer, seats) = blank.open::<N, H>(rt)?;
@@ -139,16 +200,14 @@ where
     let gates = open_gates(rt, alloc, intake, seats, lines)?;
     // Before any thread starts, so that nothing is lost.
     let lines = Vec::with_capacity(alloc, gates.len())?;
-    let others = Vec::with_capacity(alloc, gates.len())?;
     let left = Vec::with_capacity(alloc, gates.len())?;
     let Some(writing) = start_writer(rt, queue, writer) else {
         return Err(StoreFault::NoThread);
     };
-    let served = run_places(rt, alloc, turns, gates);
+    let served = run_places(rt, alloc, turns, gates, runner);
     // It ends once each line is closed, or all are gone.
     let ended = writing.join(&rt);
     let served = served?;
     let PlacesEnd { ends, threads } = served;
-    let (lines, others) = part_ends(ends, lines, others);
-    Ok(settle_run(others, lines, threads, ended, left))
+    Ok(settle_run(ends, threads, ended, lines, left))
 }

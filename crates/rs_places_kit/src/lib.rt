@@ -1,5 +1,5 @@
-//! What tests of places have in common, whether clients share them or not: turns that play connections from memory ([`Script`]),
-//! connections as rows of a table ([`Row`]), and runs of a store over them. It is a crate of its own so that nothing of it is proved twice.
+//! What tests of whole runs have in common, whoever serves the clients: turns that play connections from memory ([`Script`]), connections as
+//! rows of a table ([`Row`]), and runs of a store over them. It is a crate of its own so that nothing of it is proved twice.
 #![tactic(auto)]
 
 mod rows;

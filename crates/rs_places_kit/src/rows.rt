@@ -102,7 +102,7 @@ pub fn put_rows(alloc: Global, scripts: &mut [Script], rows: &[Row<'_>]) -> Resu
 }
 
 /// The CONNACK of a client that is assigned an identifier.
-pub fn assigned(alloc: Global, place: u8, number: u64) -> Result<Vec<u8>, AllocError> {
+pub fn assigned(alloc: Global, place: u16, number: u64) -> Result<Vec<u8>, AllocError> {
     let name = format!(in alloc; "rs{place}-{number}")?;
     let len = name.as_bytes().len().min(25) as u8;
     let mut output = Vec::new(alloc);

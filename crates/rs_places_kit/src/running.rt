@@ -3,8 +3,9 @@
 use crate::rows::{Row, put_rows, scripts};
 use crate::script::Counts;
 use rs_intake::blank_queue;
-use rs_message::{MAX_PLACES, PlaceCount};
+use rs_message::{LineCount, MAX_LINES, PlaceCount};
 use rs_places::{StoreEnd, run_store};
+use rs_pool::{NoWatch, Runner, Watch};
 use rs_turns::Turn;
 use rs_version_kit::blank_store;
 use std::alloc::Global;
@@ -16,7 +17,7 @@ use std::thread::Threads;
 /// What came of a run.
 #[derive(Clone, Copy, Debug, PartialEq, Eq)]
 pub struct Played {
-    /// How many places had a thread.
+    /// How many clients had a thread, or how many lanes.
     pub threads: usize,
     /// How many connections went as they had to.
     pub right: u64,
@@ -25,7 +26,7 @@ pub struct Played {
     pub version: u64,
 }
 
-/// What comes of a run if each place had a thread, each connection went as it had to, and all was settled.
+/// What comes of a run if there were so many threads, each connection went as it had to, and all was settled.
 pub fn as_wanted(threads: usize, right: u64, changes: u64, version: u64) -> Played {
     Played {
         threads,
@@ -45,30 +46,37 @@ pub fn outcome<T>(end: &StoreEnd<T>, counts: &Counts) -> Played {
     }
 }
 
-/// Runs a store with a place for each turn.
-pub fn run<T: Turn + Send + Drop + 'static, R: Threads + Wait + Copy + Send + Sync + 'static>(
+/// Runs a store of so many topics and seats, with a client for each turn, whom this runner serves.
+pub fn run<
+    T: Turn + Send + Drop + 'static,
+    R: Threads + Wait + Copy + Send + Sync + 'static,
+    W: Watch<T::In> + Send + Sync + Drop + 'static,
+>(
     rt: R,
     alloc: Global,
-    topics: u32,
+    (topics, seats): (u32, u8),
     turns: Vec<T>,
     counts: &Counts,
+    runner: Runner<W>,
 ) -> Result<Played, Fail>
 where
-    T::In: Send,
-    T::Out: Send,
-    T::Time: Send,
+    T::In: Send + 'static,
+    T::Out: Send + 'static,
+    T::Time: Send + 'static,
 {
     let count = turns.len();
-    if count > usize::from(MAX_PLACES) {
-        return Err(Fail::from("at most 64 places"));
+    if count > usize::from(MAX_LINES) {
+        return Err(Fail::from("too many clients"));
     }
-    let places = PlaceCount::new(count as u8).ok_or("no place")?;
-    let blank = blank_store(alloc, topics, places)?;
-    let end = run_store(rt, alloc, blank, blank_queue(alloc, places)?, turns)?;
+    let lines = LineCount::new(count as u16).ok_or("no client")?;
+    let seats = PlaceCount::new(seats).ok_or("seats")?;
+    let blank = blank_store(alloc, topics, seats)?;
+    let queue = blank_queue(alloc, lines)?;
+    let end = run_store(rt, alloc, blank, queue, turns, runner)?;
     Ok(outcome(&end, counts))
 }
 
-/// Runs a store of so many topics and places over these connections.
+/// Runs a store of so many topics and places over these connections, with a thread and a seat for each place.
 pub fn play<R: Threads + Wait + Copy + Send + Sync + 'static>(
     rt: R,
     alloc: Global,
@@ -79,5 +87,6 @@ pub fn play<R: Threads + Wait + Copy + Send + Sync + 'static>(
     let counts = Arc::new(alloc, Counts::new())?;
     let mut turns = scripts(alloc, &counts, places)?;
     put_rows(alloc, turns.as_mut_slice(), rows)?;
-    run(rt, alloc, topics, turns, &counts)
+    let runner = Runner::<NoWatch>::OneEach;
+    run(rt, alloc, (topics, places), turns, &counts, runner)
 }

@@ -1,12 +1,13 @@
 //! Turns that play connections from memory.
 
 ghost use Rattle.rs_server.specs.Counts.{failures_of, inner_of};
+ghost use Rattle.rs_turns.specs.Ended.{ending_of};
 ghost use Rattle.rs_turns.specs.Turns.{TakesBack, none_given};
 
-use rs_server::{Clock, Counted, ServeFault, Served, Tally};
+use rs_server::{Clock, ServeFault, Served};
 use rs_server_kit::ServeResult;
 use rs_test_kit::{Behavior, CONNACK, FaultyStream, is_concat};
-use rs_turns::{Connection, Turn};
+use rs_turns::{Connection, EndedConnection, Turn};
 use std::alloc::{AllocError, Global};
 use std::collections::VecDeque;
 use std::io;
@@ -233,24 +234,17 @@ impl Turn for Script {
         })
     }
 
-    fn end(
-        &mut self,
-        connection: Connection<Counted<Input>, Counted<Output>, ScriptClock>,
-        served: Result<Served, ServeFault>,
-        _tally: Tally,
-    )
+    fn end(&mut self, ended: EndedConnection<Input, Output, ScriptClock>)
         ensures { TakesBack none_given
-            (record {
-              streams = record {
-                unread = ⟦<Input as Read>⟧.remaining (inner_of connection.input);
-                written = ⟦<Output as Write>⟧.contents (inner_of connection.output);
-                moments = ⟦<ScriptClock as Clock>⟧.moments connection.clock;
-              };
-              read_failures = failures_of connection.input;
-              write_failures = failures_of connection.output;
-              result = served;
-            }) none_given }
+            (ending_of (⟦<Input as Read>⟧.remaining (inner_of ended.connection.input)) (⟦<Output as Write>⟧.contents (inner_of ended.connection.output))
+            (⟦<ScriptClock as Clock>⟧.moments ended.connection.clock) (failures_of ended.connection.input) (failures_of ended.connection.output) ended.served)
+            none_given }
     {
+        let EndedConnection {
+            connection,
+            served,
+            ..
+        } = ended;
         let output = connection.output.into_inner();
         if output.is_right(served) && !connection.clock.is_alone {
             self.counts.right.fetch_add(1, Ordering::SeqCst);

@@ -9,7 +9,7 @@ use Rattle.rs_places.proofs.Whole.{new_gates_length}
 use Rattle.rs_message.specs.declared.entry.Entry.{Entry}
 use Rattle.rs_version.specs.Copies.{listed}
 use Rattle.rs_turns.specs.Visits.{AreConnectionsServed, Place, Visit, next_number}
-use Rattle.rs_threads.specs.Places.{Left, places_of}
+use Rattle.rs_turns.specs.Places.{Left, places_of}
 use Rattle.rs_turns.specs.Shared.{SharedValue}
 use Rattle.rs_turns.specs.Within.{AreWithin}
 use Rattle.rs_places.specs.Store.{IsPlaceOf, IsStoreRun, new_gates}

@@ -35,7 +35,7 @@ pub enum RunFault {
     /// All connections were served, by fewer threads than were asked for, at each place one.
     #[error("{threads} of {places} places had a thread")]
     FewThreads {
-        /// How many places had a thread of their own.
+        /// How many places had a thread.
         threads: usize,
         /// How many were to.
         places: u8,

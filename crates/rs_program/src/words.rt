@@ -33,7 +33,7 @@ pub enum Run {
     Listen {
         /// The address to listen on, as it was given.
         address: String,
-        /// How many clients use the store at the same time.
+        /// How many clients read the store at the same time.
         places: PlaceCount,
         /// How many clients are served at the same time: at least as many as there are places, at most [`MAX_CLIENTS`].
         clients: u16,

@@ -1,145 +1,35 @@
-//! What clients that share a place show after memory was refused to what one of them hands over, or to the writer for it.
+//! What clients with a line each, who share a seat, show after memory was refused to what they hand over or ask for, or to the writer.
 
 ghost use Rattle.std.specs.Prelude.{◌≡◌};
 
-use crate::groups::{
-    Book, Done, Group, Grouping, Opened, Place, blanks, groups, leave, open, refused,
-    refused_to_crowd, start, submit_all, summed,
-};
+use crate::groups::{Group, Grouping, Opened, ROUNDS, blanks, groups, leave, open, start, summed};
 use crate::view::View;
 use rs_calls_kit::{Failure, check};
-use rs_client_gate::{ClientGate, SharedPlaces};
-use rs_intake::{BlankQueue, Ended};
-use rs_line::{LineEnd, LineName};
+use rs_intake::BlankQueue;
+use rs_line::LineName;
 use rs_message::{Operation, SubmitFault};
+use rs_places::{SharedGate, open_gates};
 use rs_session::Gate;
 use rs_topic::TopicFilter;
+use rs_turns::LineGate;
 use rs_version::Blank;
 use std::alloc::Global;
+use std::collections::VecDeque;
 use std::marker::Brand;
-use std::sync::{Arc, Wait};
-use std::thread::{JoinHandle, Threads};
+use std::sync::Wait;
+use std::thread::Threads;
 
-/// Clients of a place. The one that submits next is behind the last one.
-#[derive(Drop)]
-struct Clients<N: LineName, H: Wait + Copy + Drop> {
-    gates: Vec<ClientGate<N, H>>,
-    next: usize,
-    all: TopicFilter,
-}
-
-impl<N: LineName, H: Wait + Copy + Drop> Place for Clients<N, H> {
-    fn expect(&mut self, changes: Vec<Operation>) {
-        self.next = self.next.saturating_add(1);
-        if self.next >= self.gates.len() {
-            self.next = 0;
-        }
-        if let Some(gate) = self.gates.get_mut(self.next) {
-            gate.expect(changes);
-        }
-    }
-
-    fn submit(&mut self, change: Operation) -> Done {
-        let Some(gate) = self.gates.get_mut(self.next) else {
-            return Done::Other;
-        };
-        match gate.submit(change) {
-            // Nobody else submits meanwhile, so the entry is the last of the list that was told with it.
-            Ok(()) => Done::Published(gate.version()),
-            Err(SubmitFault::NoMemory) => Done::Refused,
-            Err(SubmitFault::Open) => Done::Held,
-            Err(_) => Done::Other,
-        }
-    }
-
-    fn view(&mut self) -> Option<View> {
-        let gate = self.gates.get_mut(self.next)?;
-        let found = gate.answer(&self.all, 0).ok()?;
-        Some(View {
-            version: gate.version(),
-            found: found.len() as u64,
-        })
-    }
-}
-
-#[derive(Drop)]
-struct Running<N: LineName, H: Wait + Copy + Drop> {
-    writer: JoinHandle<Ended<N, H>>,
-    places: Arc<SharedPlaces<N>>,
-    clients: Clients<N, H>,
-}
-
-/// Gates of so many clients at the first place.
-fn gates<N: LineName, H: Wait + Copy + Drop>(
-    rt: H,
-    alloc: Global,
-    places: &Arc<SharedPlaces<N>>,
-    count: u64,
-) -> Result<Vec<ClientGate<N, H>>, Failure> {
-    let mut gates = Vec::new(alloc);
-    for _ in 0..count {
-        let Some(gate) = ClientGate::new(rt, alloc, Arc::try_clone(places)?, 0) else {
-            return Err(Failure::Wrong);
-        };
-        gates.push(gate)?;
-    }
-    Ok(gates)
-}
-
-fn run<H: Wait + Threads + Copy + Send + Sync + 'static, N: LineName + Send + Sync + 'static>(
-    rt: H,
-    alloc: Global,
-    blank: Blank,
-    queue: BlankQueue,
-    all: TopicFilter,
-    clients: u64,
-) -> Result<Running<N, H>, Failure>
-    requires store { (blank.history ≡ N.history) × (blank.limit ≡ N.limit) }
-    requires queue { (queue.name ≡ N.queue) × (queue.places ≡ N.places) }
-{
-    let Opened {
-        writer,
-        seats,
-        intake,
-        lines,
-        queue,
-    } = open::<N, H>(rt, blank, queue)?;
-    let places = Arc::new(alloc, SharedPlaces::new(&rt, alloc, intake, seats, lines)?)?;
-    let gates = gates(rt, alloc, &places, clients)?;
-    let writer = start(rt, queue, writer)?;
-    Ok(Running {
-        writer,
-        places,
-        clients: Clients {
-            gates,
-            next: 0,
-            all,
-        },
-    })
-}
-
-/// Closes the line, once no client has the place any more.
-fn close<N: LineName, H: Wait>(
-    rt: &H,
-    alloc: Global,
-    places: Arc<SharedPlaces<N>>,
-) -> Result<Vec<LineEnd<N>>, Failure> {
-    let Ok(places) = Arc::try_unwrap(places) else {
-        return Err(Failure::Wrong);
-    };
-    let ends = Vec::with_capacity(alloc, places.len())?;
-    Ok(places.close(rt, ends))
-}
-
-/// What the clients of a crowd were told: how many changes have receipts, for how many memory was refused, and for how many to the writer.
+/// What the clients were told: how many changes have receipts, and how often memory was refused: to a submit that made no entry, to one whose
+/// entry was held, and to an answer.
 #[derive(Clone, Copy)]
-struct CrowdBook {
+struct Book {
     made: u64,
     submit: u64,
     held: u64,
+    answer: u64,
 }
 
-impl CrowdBook {
+impl Book {
     /// Takes note of a submit. Returns whether that may be.
     fn note(&mut self, told: Result<(), SubmitFault>) -> bool {
         match told {
@@ -150,32 +40,66 @@ impl CrowdBook {
         }
         true
     }
-}
 
-/// Each client announces one of the changes.
-fn expect_each<N: LineName, H: Wait + Copy + Drop>(
-    alloc: Global,
-    gates: &mut Vec<ClientGate<N, H>>,
-    changes: Vec<Operation>,
-) -> Result<(), Failure> {
-    for (gate, change) in gates.iter_mut().zip(changes) {
-        if change.is_sweep() {
-            return Err(Failure::Wrong);
-        }
-        let mut one = Vec::new(alloc);
-        one.push(change)?;
-        gate.expect(one);
+    /// Whether a client may read this: each entry has a topic of its own, and is published, but for the last one that is held.
+    fn may_read(&self, view: View) -> bool {
+        let most = self.made.saturating_add(self.held);
+        view.found == view.version && self.made <= view.version && view.version <= most
     }
-    Ok(())
 }
 
-/// Each client submits one of the changes.
-fn submit_each<N: LineName, H: Wait + Copy + Drop>(
-    gates: &mut Vec<ClientGate<N, H>>,
-    changes: Vec<Operation>,
-    book: &mut CrowdBook,
+/// What the client reads, or none if memory is refused for it.
+fn view<N: LineName, H: Wait + Copy>(
+    gate: &mut SharedGate<N, H>,
+    all: &TopicFilter,
+) -> Option<View> {
+    let found = gate.answer(all, 0).ok()?;
+    Some(View {
+        version: gate.version(),
+        found: found.len() as u64,
+    })
+}
+
+/// The client reads. If memory is refused, it asks again.
+fn read<N: LineName, H: Wait + Copy>(
+    gate: &mut SharedGate<N, H>,
+    all: &TopicFilter,
+    book: &mut Book,
 ) -> Result<(), Failure> {
-    for (gate, change) in gates.iter_mut().zip(changes) {
+    if let Some(view) = view(gate, all) {
+        return check(book.may_read(view));
+    }
+    book.answer = book.answer.saturating_add(1);
+    match view(gate, all) {
+        Some(view) => check(book.may_read(view)),
+        None => Err(Failure::NoMemory),
+    }
+}
+
+/// Each client announces a group of changes: these changes, which are not submitted yet.
+fn announce_each<N: LineName, H: Wait + Copy + Drop>(
+    alloc: Global,
+    gates: &mut Vec<SharedGate<N, H>>,
+    groups: &mut VecDeque<Group>,
+) -> Result<Vec<Vec<Operation>>, Failure> {
+    let mut all = Vec::with_capacity(alloc, gates.len())?;
+    for gate in gates.iter_mut() {
+        let Some(Group { announced, changes }) = groups.pop_front() else {
+            return Err(Failure::Wrong);
+        };
+        gate.expect(announced);
+        all.push(changes)?;
+    }
+    Ok(all)
+}
+
+/// The client submits its changes.
+fn submit_all<N: LineName, H: Wait + Copy + Drop>(
+    gate: &mut SharedGate<N, H>,
+    changes: Vec<Operation>,
+    book: &mut Book,
+) -> Result<(), Failure> {
+    for change in changes {
         if change.is_sweep() {
             return Err(Failure::Wrong);
         }
@@ -184,132 +108,113 @@ fn submit_each<N: LineName, H: Wait + Copy + Drop>(
     Ok(())
 }
 
-/// Of each group each client announces one change and submits it.
-fn submit_crowded<N: LineName, H: Wait + Copy + Drop>(
+/// Each client announces a group, then each submits its own, and then each reads.
+fn submit_round<N: LineName, H: Wait + Copy + Drop>(
     alloc: Global,
-    gates: &mut Vec<ClientGate<N, H>>,
+    gates: &mut Vec<SharedGate<N, H>>,
+    groups: &mut VecDeque<Group>,
+    all: &TopicFilter,
+    book: &mut Book,
+) -> Result<(), Failure> {
+    let announced = announce_each(alloc, gates, groups)?;
+    for (gate, changes) in gates.iter_mut().zip(announced) {
+        submit_all(gate, changes, book)?;
+    }
+    for gate in gates.iter_mut() {
+        read(gate, all, book)?;
+    }
+    Ok(())
+}
+
+/// The clients submit the groups, each as many as the others.
+fn submit_groups<N: LineName, H: Wait + Copy + Drop>(
+    alloc: Global,
+    gates: &mut Vec<SharedGate<N, H>>,
     groups: Vec<Group>,
-) -> Result<CrowdBook, Failure> {
-    let mut book = CrowdBook {
+    all: &TopicFilter,
+) -> Result<Book, Failure> {
+    let mut book = Book {
         made: 0,
         submit: 0,
         held: 0,
+        answer: 0,
     };
-    for group in groups {
-        let Group { announced, changes } = group;
-        expect_each(alloc, gates, announced)?;
-        submit_each(gates, changes, &mut book)?;
+    let rounds = groups.len() / gates.len().max(1);
+    let mut groups = VecDeque::from_vec(groups);
+    for _round in 0..rounds {
+        submit_round(alloc, gates, &mut groups, all, &mut book)?;
     }
+    check(groups.is_empty())?;
     Ok(book)
 }
 
-/// What the clients were told.
-#[derive(Clone, Copy)]
-enum Told {
-    /// Two, of which each submits a whole group.
-    Pair(Book),
-    Crowd(CrowdBook),
-}
-
-/// Submits the groups.
-fn submit_groups<N: LineName, H: Wait + Copy + Drop>(
-    alloc: Global,
-    clients: &mut Clients<N, H>,
-    groups: Vec<Group>,
-) -> Result<Told, Failure> {
-    if clients.gates.len() > 2 {
-        return match submit_crowded(alloc, &mut clients.gates, groups) {
-            Ok(book) => Ok(Told::Crowd(book)),
-            Err(failure) => Err(failure),
-        };
-    }
-    match submit_all(clients, groups, false) {
-        Ok(book) => Ok(Told::Pair(book)),
-        Err(failure) => Err(failure),
-    }
-}
-
-/// The clients submit while the writer works on a thread of its own. Then the place is closed, and all is settled. How often memory was
-/// refused, as [`refused`] or [`refused_to_crowd`] counts it.
+/// The clients submit while the writer works on a thread of its own. Then their lines are closed, and all is settled. How often memory was
+/// refused: to a submit that made no entry, to one whose entry was held, and to an answer.
 fn tried<H: Wait + Threads + Copy + Send + Sync + 'static, N: LineName + Send + Sync + 'static>(
     rt: H,
     alloc: Global,
     blank: Blank,
     queue: BlankQueue,
-    all: TopicFilter,
-    clients: u64,
-    grouping: Grouping,
+    groups: Vec<Group>,
 ) -> Result<[u64; 3], Failure>
     requires store { (blank.history ≡ N.history) × (blank.limit ≡ N.limit) }
     requires queue { (queue.name ≡ N.queue) × (queue.places ≡ N.places) }
 {
-    // They are made before: between two submits, only what the calls themselves need takes memory.
-    let groups = groups(alloc, grouping)?;
-    let Running {
+    let all = TopicFilter::read(alloc, b"#")?;
+    let Opened {
         writer,
-        places,
-        mut clients,
-    } = run::<H, N>(rt, alloc, blank, queue, all, clients)?;
-    let told = submit_groups(alloc, &mut clients, groups);
-    drop(clients);
-    let ends = close(&rt, alloc, places)?;
-    let left = leave(&rt, ends, writer);
-    match told? {
-        Told::Pair(book) => refused(book, left),
-        Told::Crowd(book) => refused_to_crowd(book.made, book.submit, book.held, left),
+        seats,
+        intake,
+        lines,
+        queue,
+    } = open::<N, H>(rt, blank, queue)?;
+    let mut gates = open_gates(rt, alloc, intake, seats, lines)?;
+    let mut ends = Vec::with_capacity(alloc, gates.len())?;
+    let writer = start(rt, queue, writer)?;
+    let told = submit_groups(alloc, &mut gates, groups, &all);
+    for gate in gates {
+        let _ = ends.push(gate.close());
     }
+    let left = leave(&rt, ends, writer);
+    let book = told?;
+    check(left.is_of_all(book.made, book.held))?;
+    Ok([book.submit, book.held, book.answer])
 }
+
+/// So many clients, and how many changes each hands over together.
+type Crowd = (u16, u64);
 
 /// The same in a new store.
 fn worked<H: Wait + Threads + Copy + Send + Sync + 'static>(
     rt: H,
     alloc: Global,
-    clients: u64,
-    grouping: Grouping,
+    (clients, size): Crowd,
 ) -> Result<[u64; 3], Failure> {
-    let all = TopicFilter::read(alloc, b"#")?;
-    let (blank, queue) = blanks(alloc)?;
-    tried::<H, Brand>(rt, alloc, blank, queue, all, clients, grouping)
+    // They are made before: between two submits, little but what the calls themselves need takes memory.
+    let groups = groups(
+        alloc,
+        Grouping {
+            groups: u64::from(ROUNDS) / size.max(1),
+            size,
+            ends_at_held: false,
+        },
+    )?;
+    let (blank, queue) = blanks(alloc, clients)?;
+    tried::<H, Brand>(rt, alloc, blank, queue, groups)
 }
 
-/// How many clients submit: two, all topics one by one, or in bursts of six; or six, of which each submits one topic of a group.
-const GROUPINGS: &[(u64, Grouping)] = &[
-    (
-        2,
-        Grouping {
-            groups: 24,
-            size: 1,
-            ends_at_held: false,
-        },
-    ),
-    (
-        2,
-        Grouping {
-            groups: 4,
-            size: 6,
-            ends_at_held: false,
-        },
-    ),
-    (
-        6,
-        Grouping {
-            groups: 4,
-            size: 6,
-            ends_at_held: false,
-        },
-    ),
-];
+/// Two, one by one and in bursts of six; and six, one by one.
+const CROWDS: &[Crowd] = &[(2, 1), (2, 6), (6, 1)];
 
-/// Clients of a place submit new topics to a store for each grouping. Returns how often memory was refused in all, in the order of
-/// [`refused`].
+/// Clients submit new topics to a store for each crowd. Returns how often memory was refused in all, to a submit that made no entry, to one
+/// whose entry was held, and to an answer.
 pub fn work<H: Wait + Threads + Copy + Send + Sync + 'static>(
     rt: &H,
     alloc: Global,
 ) -> Result<Vec<u64>, Failure> {
-    let mut all = Vec::with_capacity(alloc, GROUPINGS.len())?;
-    for row in GROUPINGS {
-        let (clients, grouping) = *row;
-        all.push(worked(*rt, alloc, clients, grouping)?)?;
+    let mut all = Vec::with_capacity(alloc, CROWDS.len())?;
+    for crowd in CROWDS {
+        all.push(worked(*rt, alloc, *crowd)?)?;
     }
     summed(alloc, all.as_slice())
 }

@@ -1,4 +1,4 @@
-//! A store of one place, with a writer on a thread of its own, and changes that are submitted in groups: what the place was told.
+//! A store of one seat, with a writer on a thread of its own, and changes that are submitted in groups: what a place was told.
 
 ghost use Rattle.std.specs.Prelude.{◌≡◌, [], All, IfOk, false};
 ghost use Rattle.rs_message.specs.Messages.{is_sweep};
@@ -8,7 +8,7 @@ use crate::view::View;
 use rs_calls_kit::{Change, Failure, Naming, check, operation};
 use rs_intake::{BlankQueue, Ended, Queue, blank_queue, run_writer, settle};
 use rs_line::{Intake, LineEnd, LineName, SeatLine};
-use rs_message::{Operation, PlaceCount};
+use rs_message::{LineCount, Operation, PlaceCount};
 use rs_store::TopicLimit;
 use rs_version::{Blank, Seat, VersionWriter};
 use std::alloc::{AllocError, Global};
@@ -18,12 +18,13 @@ use std::thread::{JoinHandle, Threads, spawn};
 /// How many topics are submitted: so many that the catalogues have to grow more than once.
 pub const ROUNDS: u32 = 24;
 
-/// A new store of one place, and its queue.
-pub fn blanks(alloc: Global) -> Result<(Blank, BlankQueue), Failure> {
+/// A new store of one seat, and a queue for so many lines.
+pub fn blanks(alloc: Global, lines: u16) -> Result<(Blank, BlankQueue), Failure> {
     let limit = TopicLimit::new(ROUNDS).ok_or(Failure::Wrong)?;
-    let places = PlaceCount::new(1).ok_or(Failure::Wrong)?;
-    let blank = Blank::new(alloc, limit, places)?;
-    Ok((blank, blank_queue(alloc, places)?))
+    let seat = PlaceCount::new(1).ok_or(Failure::Wrong)?;
+    let lines = LineCount::new(lines).ok_or(Failure::Wrong)?;
+    let blank = Blank::new(alloc, limit, seat)?;
+    Ok((blank, blank_queue(alloc, lines)?))
 }
 
 /// A store and its queue, under one name.
@@ -237,6 +238,16 @@ pub struct Left {
     is_settled: bool,
 }
 
+impl Left {
+    /// Whether this is left once so many changes had receipts, and memory was refused to the writer for so many: all that was sent was taken,
+    /// and nothing twice.
+    pub fn is_of_all(self, made: u64, held: u64) -> bool {
+        // Each entry that was held is published later, but for the last one, if it was refused memory again.
+        let kept = made.saturating_add(held);
+        self.is_settled && self.version == kept.saturating_sub(u64::from(self.is_held))
+    }
+}
+
 /// Waits for the writer, and settles what was sent with what it took.
 pub fn leave<N: LineName, H: Wait + Threads + Copy>(
     rt: &H,
@@ -250,21 +261,6 @@ pub fn leave<N: LineName, H: Wait + Threads + Copy>(
         is_held: ended.held.is_some(),
         is_settled: settled == Some(ended.taken),
     }
-}
-
-/// The same of clients that announce one change each, of which any may hand over those of others: their receipts are in no order that they
-/// know. `made` had receipts, and memory was refused to `submit`, and to the writer for `held`.
-pub fn refused_to_crowd(
-    made: u64,
-    submit: u64,
-    held: u64,
-    left: Left,
-) -> Result<[u64; 3], Failure> {
-    // Each entry that was held is published later, but if the last one was refused memory again.
-    let most = made.saturating_add(held);
-    check(left.is_settled && made <= left.version && left.version <= most)?;
-    check(left.version == most || left.is_held)?;
-    Ok([submit, held, 0])
 }
 
 /// How often memory was refused in a run that was told and left this: to a submit that made no entry, to one whose entry was held, and to

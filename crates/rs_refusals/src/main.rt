@@ -1,8 +1,8 @@
 //! Works single calls that are refused memory, for `checks/out_of_memory` and `checks/full_memory`, and prints numbers, one a line.
 //!
 //! `tree`, `window`, `versions`, `queue` and `clients` look at what a tree, a window, a store of versions, the queue to its writer and
-//! clients of a place show after they were refused memory. Each prints of each kind of call how often it was refused memory, kept what it
-//! owes, and did its work when it was called again: 0 with ample memory. `reserve` takes all memory itself, and needs a limit of the
+//! clients that share a seat show after they were refused memory. Each prints of each kind of call how often it was refused memory, kept
+//! what it owes, and did its work when it was called again: 0 with ample memory. `reserve` takes all memory itself, and needs a limit of the
 //! system.
 //!
 //! The status is 1 if memory, the words or the output failed, 2 for other words, and 3 at a wrong answer.

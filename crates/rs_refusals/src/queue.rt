@@ -119,7 +119,7 @@ fn worked<H: Wait + Threads + Copy + Send + Sync + 'static>(
     grouping: Grouping,
 ) -> Result<[u64; 3], Failure> {
     let all = TopicFilter::read(alloc, b"#")?;
-    let (blank, queue) = blanks(alloc)?;
+    let (blank, queue) = blanks(alloc, 1)?;
     tried::<H, Brand>(rt, alloc, blank, queue, all, grouping)
 }
 

@@ -1,17 +1,17 @@
-//! What a tree and its copies show after memory was refused to `add`. To copy a tree takes none.
+//! What a tree, and messages that were taken out of it, show after memory was refused to `add`. To take them takes none.
 
 use rs_calls_kit::{Change, Failure, HOUSE, Keeper, Naming, Outcome, check, entry, topic};
 use rs_message::{Entry, Found, Remaining};
-use rs_store::{CalmCatalogue, Catalogue, TopicLimit};
+use rs_store::{CalmCatalogue, Catalogue, Messages, TopicLimit};
 use rs_topic::{TopicFilter, TopicName};
-use rs_tree::TreeCatalogue;
+use rs_tree::{TreeCatalogue, TreeMessages};
 use std::alloc::Global;
 
 /// How many topics the tree takes: so many that it has to grow more than once.
 const TOPICS: u32 = 64;
 
-/// Each time that so many topics were added, the last one is cleared and added again. The tree is copied before and between, and the
-/// copies are kept as long, so that what they share with the tree has to be copied.
+/// Each time that so many topics were added, the last one is cleared and added again. The messages are taken out of the tree before and
+/// between, and kept as long, so that what they share with the tree has to be copied.
 const ROUND: u32 = HOUSE as u32;
 
 /// How many topics are added. So many of them find the tree full, or the space of those that are swept.
@@ -36,10 +36,10 @@ struct Shown {
     found: Vec<(usize, Found)>,
 }
 
-/// A copy of a tree, and what it showed when it was made.
+/// The messages of a tree, and what it showed when they were taken out of it.
 #[derive(Drop)]
-struct Copied {
-    tree: TreeCatalogue,
+struct Taken {
+    messages: TreeMessages,
     shown: Shown,
 }
 
@@ -93,6 +93,21 @@ fn shown_by(
         sweeps: tree.last_serial(0),
         found,
     })
+}
+
+/// What each of the filters finds in the messages.
+fn found_in(
+    alloc: Global,
+    messages: &TreeMessages,
+    filters: &[TopicFilter],
+) -> Result<Vec<(usize, Found)>, Failure> {
+    let mut found = Vec::with_capacity(alloc, FILTERS.len() * TOPICS as usize)?;
+    for i in 0..filters.len() {
+        for one in messages.answer(&filters[i], 0)? {
+            found.push((i, one))?;
+        }
+    }
+    Ok(found)
 }
 
 /// What a change makes of a tree.
@@ -227,28 +242,28 @@ impl Run {
         check(is_same(&changed(ready, kind, serial), &after))
     }
 
-    /// A copy of the tree, and what it shows.
-    fn copied(&self) -> Result<Copied, Failure> {
-        let Ok(tree) = self.store.catalogue().copy() else {
+    /// The messages of the tree, and what it shows.
+    fn taken(&self) -> Result<Taken, Failure> {
+        let Ok(messages) = self.store.catalogue().messages() else {
             return Err(Failure::Wrong);
         };
-        Ok(Copied {
-            tree,
+        Ok(Taken {
+            messages,
             shown: self.shown()?,
         })
     }
 
-    /// The copy must show what it showed when it was made.
-    fn is_kept(&self, copied: &Copied) -> Result<(), Failure> {
-        let shown = shown_by(self.alloc, &copied.tree, self.filters.as_slice())?;
-        check(is_same(&copied.shown, &shown))
+    /// The messages must answer what the tree did when they were taken.
+    fn is_kept(&self, taken: &Taken) -> Result<(), Failure> {
+        let found = found_in(self.alloc, &taken.messages, self.filters.as_slice())?;
+        check(is_same_answer(taken.shown.found.as_slice(), found.as_slice()))
     }
 
-    /// Clears the last topic and adds it again. Then the answers must be as before, and the copies must show what they did.
+    /// Clears the last topic and adds it again. Then the answers must be as before, and the messages must show what they did.
     fn clear_last(&mut self, number: u32) -> Result<(), Failure> {
-        let full = self.copied()?;
+        let full = self.taken()?;
         self.change(Kind::Clear, number)?;
-        let cleared = self.copied()?;
+        let cleared = self.taken()?;
         self.change(Kind::New, number)?;
         self.is_kept(&full)?;
         self.is_kept(&cleared)?;
@@ -256,7 +271,7 @@ impl Run {
         check(is_same_answer(full.shown.found.as_slice(), after.found.as_slice()))
     }
 
-    /// Adds the topic of this number, and sometimes clears and copies.
+    /// Adds the topic of this number, and sometimes clears.
     fn round(&mut self, number: u32) -> Result<(), Failure> {
         if self.store.catalogue().count() == TOPICS {
             self.change(Kind::Swept, number)?;
@@ -285,7 +300,7 @@ fn new(alloc: Global) -> Result<Run, Failure> {
     })
 }
 
-/// Adds new topics one after the other, clears and copies now and then, and returns how often memory was refused for a topic of each
+/// Adds new topics one after the other, clears now and then, and returns how often memory was refused for a topic of each
 /// kind of spot, for one behind a Sweep, and for a Clear.
 pub fn work(alloc: Global) -> Result<Vec<u64>, Failure> {
     let mut run = new(alloc)?;

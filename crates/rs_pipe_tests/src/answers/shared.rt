@@ -1,4 +1,4 @@
-//! The gates of two places of one store, held side by side: what they answer to a filter, and what they know.
+//! The gates of two lines of one store, held side by side: what they answer to a filter, and what they know.
 
 ghost use Rattle.std.specs.Prelude.{◌≡◌, []};
 ghost use Rattle.rs_version.specs.Writer.{kept_of};
@@ -27,7 +27,7 @@ fn knows<N: LineName, R: Wait + Copy>(
     gate.version() == version && told.reaches(&own) && own.reaches(told) == all
 }
 
-/// Another place than the token's knows a publication once it has read. Before that, what it knows is a prefix of the token's list.
+/// Another gate than the token's knows a publication once it has read. Before that, what it knows is a prefix of the token's list.
 fn reads<N: LineName, R: Wait + Copy>(
     gate: &mut SharedGate<N, R>,
     all: &TopicFilter,
@@ -40,8 +40,8 @@ fn reads<N: LineName, R: Wait + Copy>(
         && knows(gate, 1, told, true)
 }
 
-/// A place that was told of its publication knows it, and answers it, and another place does so once it has read.
-fn both_places_answer<N: LineName, R: Wait + Copy>(
+/// A gate that was told of its publication knows it, and answers it, and another one does so once it has read.
+fn both_answer<N: LineName, R: Wait + Copy>(
     alloc: Global,
     gates: &mut [SharedGate<N, R>],
     all: &TopicFilter,
@@ -79,7 +79,7 @@ pub(super) fn check_shared_gates<
     let (intake, lines, queue) = queue.open::<N>()?;
     let writer = start_writer(rt, queue, writer).ok_or("no thread was started")?;
     let mut gates = open_gates(rt, alloc, intake, seats, lines)?;
-    assert!(rt; both_places_answer(alloc, gates.as_mut_slice(), all));
+    assert!(rt; both_answer(alloc, gates.as_mut_slice(), all));
     let mut ends = Vec::new(alloc);
     for gate in gates {
         ends.push(gate.close())?;

@@ -4,16 +4,17 @@ ghost use Rattle.std.specs.Prelude.{◌≡◌};
 
 use rs_intake::{BlankQueue, Queue, blank_queue};
 use rs_line::{LineEnd, LineName};
-use rs_message::PlaceCount;
+use rs_message::{LineCount, PlaceCount};
 use rs_places::open_gates;
 use rs_places_kit::{
     CLOSED, Counts, PUBLISHES, SUBSCRIBES, Script, comes, ending, later, plain_row, put_rows,
     scripts,
 };
+use rs_pool::{NoWatch, Runner};
 use rs_server::Served;
+use rs_steps::run_places;
 use rs_test_kit::SUBSCRIBED;
-use rs_threads::{PlaceEnd, run_places};
-use rs_turns::Turn;
+use rs_turns::{PlaceEnd, Turn};
 use rs_version::{Blank, VersionWriter};
 use rs_version_kit::blank_store;
 use std::alloc::Global;
@@ -72,9 +73,9 @@ fn cut_off_named<
     counts: Arc<Counts>,
 ) -> Result<Cut, Fail>
 where
-    T::In: Send,
-    T::Out: Send,
-    T::Time: Send,
+    T::In: Send + 'static,
+    T::Out: Send + 'static,
+    T::Time: Send + 'static,
     requires store { (blank.history ≡ N.history) × (blank.limit ≡ N.limit) }
     requires queue { (queue.name ≡ N.queue) × (queue.places ≡ N.places) }
 {
@@ -82,7 +83,7 @@ where
     let (intake, lines, queue) = queue.open::<N>()?;
     let thread = spawn(&rt, move || end_queue(counts, queue, writer))?;
     let gates = open_gates(rt, alloc, intake, seats, lines)?;
-    let served = run_places(rt, alloc, turns, gates)?;
+    let served = run_places(rt, alloc, turns, gates, Runner::<NoWatch>::OneEach)?;
     let version = thread.join(&rt);
     let sent = sent_by(served.ends.as_slice());
     Ok((served.ends.len(), sent, version))
@@ -96,13 +97,13 @@ fn cut_off<R: Threads + Wait + Copy + Send + Sync + 'static, T: Turn + Send + Dr
     counts: Arc<Counts>,
 ) -> Result<Cut, Fail>
 where
-    T::In: Send,
-    T::Out: Send,
-    T::Time: Send,
+    T::In: Send + 'static,
+    T::Out: Send + 'static,
+    T::Time: Send + 'static,
 {
     let places = PlaceCount::new(64).ok_or("64 places")?;
     let blank = blank_store(alloc, 10, places)?;
-    let queue = blank_queue(alloc, places)?;
+    let queue = blank_queue(alloc, LineCount::of_places(places))?;
     cut_off_named::<Brand, R, T>(rt, alloc, blank, queue, turns, counts)
 }
 

@@ -2,16 +2,18 @@
 
 ghost use Rattle.std.specs.Prelude.{◌≡◌, All, IfOk, is_some, length, map, true};
 ghost use Rattle.rs_server.specs.Counts.{failures_of, inner_of};
+ghost use Rattle.rs_turns.specs.Ended.{ending_of};
 ghost use Rattle.rs_turns.specs.Turns.{TakesBack};
 ghost use Rattle.rs_places_tests.specs.Answered.{AreAnswered};
 
 use rs_intake::{BlankQueue, blank_queue};
-use rs_message::PlaceCount;
+use rs_message::{LineCount, PlaceCount};
 use rs_places::{StoreEnd, run_store};
 use rs_places_kit::{NONE, PUBLISHES, SUBSCRIBES};
-use rs_server::{Clock, Counted, Moments, Refusals, ServeFault, Served, Tally};
+use rs_pool::{NoWatch, Runner};
+use rs_server::{Clock, Moments, Refusals, ServeFault, Served};
 use rs_test_kit::{CONNACK, CONNECT, REPLAYED, SUBSCRIBED, concat, is_concat};
-use rs_turns::{Connection, StoreFault, Turn};
+use rs_turns::{Connection, EndedConnection, StoreFault, Turn};
 use rs_version::Blank;
 use rs_version_kit::blank_store;
 use std::alloc::{AllocError, Global};
@@ -73,25 +75,18 @@ impl Turn for Listed {
         self.waiting.pop_front()
     }
 
-    fn end(
-        &mut self,
-        connection: Connection<Counted<VecDeque<u8>>, Counted<Vec<u8>>, Moments>,
-        served: Result<Served, ServeFault>,
-        tally: Tally,
-    )
+    fn end(&mut self, ended: EndedConnection<VecDeque<u8>, Vec<u8>, Moments>)
         ensures { TakesBack (⟦<Listed as Turn>⟧.connections self.old)
-            (record {
-              streams = record {
-                unread = ⟦<VecDeque<u8> as Read>⟧.remaining (inner_of connection.input);
-                written = ⟦<Vec<u8> as Write>⟧.contents (inner_of connection.output);
-                moments = ⟦<Moments as Clock>⟧.moments connection.clock;
-              };
-              read_failures = failures_of connection.input;
-              write_failures = failures_of connection.output;
-              result = served;
-            })
+            (ending_of (⟦<VecDeque<u8> as Read>⟧.remaining (inner_of ended.connection.input)) (⟦<Vec<u8> as Write>⟧.contents (inner_of ended.connection.output))
+            (⟦<Moments as Clock>⟧.moments ended.connection.clock) (failures_of ended.connection.input) (failures_of ended.connection.output) ended.served)
             (⟦<Listed as Turn>⟧.connections self.new) }
     {
+        let EndedConnection {
+            connection,
+            served,
+            tally,
+            ..
+        } = ended;
         let Connection {
             input,
             output,
@@ -130,15 +125,14 @@ fn answered<T: Turn + Send + Drop + 'static, H: Threads + Wait + Copy + Send + S
     turns: Vec<T>,
 ) -> Result<StoreEnd<T>, StoreFault>
 where
-    T::In: Send,
-    T::Out: Send,
-    T::Time: Send,
-    requires places { queue.places ≡ blank.places }
-    requires turns { length turns.items ≡ blank.places }
+    T::In: Send + 'static,
+    T::Out: Send + 'static,
+    T::Time: Send + 'static,
+    requires turns { queue.places ≡ length turns.items }
     requires known { All (λ turn. is_some (T.connections turn).waiting ≡ true) turns.items }
     ensures { IfOk result (λ end. AreAnswered blank.limit (map T.connections turns.items) (map T.connections end.turns.items) end.version) }
 {
-    run_store(rt, alloc, blank, queue, turns)
+    run_store(rt, alloc, blank, queue, turns, Runner::<NoWatch>::OneEach)
 }
 
 /// A connection of a client that sends this, at 0.
@@ -207,7 +201,7 @@ fn connections_in_memory_are_answered(rt: HostRuntime) -> Result<(), Fail> {
     let turns = known_turns(alloc)?;
     let places = PlaceCount::new(2).ok_or("two places")?;
     let blank = blank_store(alloc, 10, places)?;
-    let queue = blank_queue(alloc, places)?;
+    let queue = blank_queue(alloc, LineCount::of_places(places))?;
     let end = answered(rt, alloc, blank, queue, turns)?;
     assert!(rt; end.threads == 2);
     assert!(rt; (end.changes, end.version) == (Some(1), 1));
@@ -271,7 +265,7 @@ fn a_turn_is_told_what_was_refused(rt: HostRuntime) -> Result<(), Fail> {
     let turns = filling_turn(alloc)?;
     let places = PlaceCount::new(1).ok_or("a place")?;
     let blank = blank_store(alloc, 1, places)?;
-    let queue = blank_queue(alloc, places)?;
+    let queue = blank_queue(alloc, LineCount::of_places(places))?;
     let end = answered(rt, alloc, blank, queue, turns)?;
     assert!(rt; (end.changes, end.version) == (Some(5), 2));
     let told = match end.turns.get(0) {

@@ -4,6 +4,7 @@ use rs_places_kit::{
     Counts, NONE, PLAIN, PUBLISHES, Row, SUBSCRIBES, Script, as_wanted, assigned, ending, later,
     plain_row, play, run, scripts,
 };
+use rs_pool::{NoWatch, Runner};
 use rs_server::Served;
 use rs_test_kit::{CONNACK, CONNECT, REPLAYED, SUBSCRIBED, concat};
 use std::alloc::{AllocError, Global};
@@ -60,7 +61,7 @@ fn publish_fifty(
 fn put_own(alloc: Global, place: u8, number: u8, script: &mut Script) -> Result<(), AllocError> {
     let topic = place.saturating_add(b'/');
     let last = number.saturating_mul(50);
-    let mut output = assigned(alloc, place, u64::from(number))?;
+    let mut output = assigned(alloc, u16::from(place), u64::from(number))?;
     let mut input = concat(
         alloc,
         &[b"\x10\x0D\x00\x04MQTT\x05\x02\x00\x3C\x00\x00\x00".as_slice()],
@@ -89,7 +90,9 @@ fn the_changes_of_each_place_are_made_in_order(rt: HostRuntime) -> Result<(), Fa
     let counts = Arc::new(alloc, Counts::new())?;
     let mut turns = scripts(alloc, &counts, 64)?;
     put_all(alloc, turns.as_mut_slice())?;
-    assert!(rt; run(rt, alloc, 100, turns, &counts)? == as_wanted(64, 128, 6400, 6400));
+    let runner = Runner::<NoWatch>::OneEach;
+    let ran = run(rt, alloc, (100, 64), turns, &counts, runner)?;
+    assert!(rt; ran == as_wanted(64, 128, 6400, 6400));
     Ok(())
 }
 

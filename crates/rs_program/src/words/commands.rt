@@ -7,12 +7,12 @@ ghost use Rattle.rs_program.specs.CommandLine.{address_option, clients_option, c
 
 use clap::builder::ValueParser;
 use clap::{Arg, ArgAction, Command};
-use rs_message::MAX_PLACES;
+use rs_message::{MAX_LINES, MAX_PLACES};
 use rs_pipe::MAX_OWN_TOPICS;
 use rs_store::MAX_TOPICS;
 use std::alloc::{AllocError, Global};
 
-/// The most clients that are served at the same time. A choice of this project.
+/// The most clients that are served at the same time: as many as there may be lines.
 pub const MAX_CLIENTS: u16 = 10_000;
 
 /// The most connections after which `listen` ends. A choice of this project.
@@ -49,16 +49,18 @@ address that it listens on. After --connections connections it prints how many t
 however each of them ended. With --endless it goes on until a signal ends it. One of the two has to
 be given.
 
-Up to --clients clients are served at the same time, and share the places of the store. The next
-one waits until one of them is gone. Keep Alive is not enforced: without --idle a client that is
-silent stays until it disconnects. With --idle its connection ends once it sent nothing, or took
-nothing of what waits for it, for so many seconds. A client that keeps its Keep Alive is not cut
-off if --idle is at least one and a half times that interval.
+Up to --clients clients are served at the same time, each with a line of its own to the store. The
+next one waits until one of them is gone. If they are as many as --places, each has a thread. If
+they are more, each place has a lane of threads for its share of them. Keep Alive is not enforced:
+without --idle a client that is silent stays until it disconnects. With --idle its connection ends
+once it sent nothing, or took nothing of what waits for it, for so many seconds. A client that keeps
+its Keep Alive is not cut off if --idle is at least one and a half times that interval.
 
-With --log, it writes a line to standard error when a connection begins and when it ends, with its
-place, its number there, the client's address, how it ended and what it was refused; one when the
-store is full, and one when it may take new topics again; one if the process may have too few
-descriptors for its clients; and one if it cannot listen, with the reason.
+With --log, it writes a line to standard error when a connection begins and when it ends, with the
+place of its client, or the client's number if there are more clients than places, its own number
+there, the client's address, how it ended and what it was refused; one when the store is full, and
+one when it may take new topics again; one if the process may have too few descriptors for its
+clients; and one if it cannot listen, with the reason.
 
 The store is in memory. It is empty at the start, and lost at the end.
 
@@ -69,7 +71,8 @@ const ADDRESS_HELP: &str =
     "The address to listen on: a host's name, an IPv4 or an IPv6 address, and a port, \
 as localhost:1883, 127.0.0.1:1883 or [::1]:1883. Port 0 takes one that is free";
 
-const PLACES_HELP: &str = "How many clients use the store at the same time";
+const PLACES_HELP: &str =
+    "How many clients read the store at the same time, and how many lanes of threads serve them if they are more";
 
 const CLIENTS_HELP: &str =
     "How many clients are served at the same time, at least as many as places; as many, if it is not given";
@@ -90,6 +93,8 @@ const LOG_HELP: &str =
 const _: () = prove!(MAX_PLACES == 64);
 
 const _: () = prove!(MAX_CLIENTS == 10_000);
+
+const _: () = prove!(MAX_CLIENTS == MAX_LINES);
 
 const _: () = prove!(MAX_TOPICS == 65_536);
 

@@ -4,9 +4,8 @@ use Rattle.rs_places.proofs.settling.part_ends.Given as goal
 abbrev pub invariant-loop-end : goal.invariant-loop-end
 invariant-loop-end g l = record {
   lines : l.lines.items ≡ map (λ end. end.line) l.yielded;
-  told : map (λ other. other.told) l.others.items ≡ map (λ end. end.told) l.yielded;
-  turns : map (λ other. other.turn) l.others.items ≡ map (λ end. end.turn) l.yielded;
+  turns : l.turns.items ≡ map (λ end. end.turn) l.yielded;
   all : l.yielded ++ l.end-iterator.rest.items ≡ l.fn.ends.items;
   lines_fit : length l.lines.items + length l.end-iterator.rest.items ≤ vec_capacity l.lines;
-  others_fit : length l.others.items + length l.end-iterator.rest.items ≤ vec_capacity l.others;
+  turns_fit : length l.turns.items + length l.end-iterator.rest.items ≤ vec_capacity l.turns;
 }

@@ -16,17 +16,17 @@ use Rattle.rs_places.proofs.shared_gate.SharedGateGate.submit.Goals as goal
 
 pub returns-clause-list : goal.returns-clause-list
 returns-clause-list g c = λ seen knows.
-    let list = c.learn.new.self in
+    let list = c.learn.new.known in
     let receipt = c.in_ok-receipt.receipt in
     let line = c.submit.new.line in
     let old : Mark = c.args.self.now.mark in
     let new : Mark = mark_of line in
     let plain : mark_of c.self.inside.line ≡ old = ap (λ (v : SharedValue). v.mark) c.self.view_is in
-    let known : c.self.inside.seat ≡ seen = ap (λ (v : SharedValue). v.known) c.self.view_is ∙ knows.known in
+    let known : c.self.inside.known ≡ seen = ap (λ (v : SharedValue). v.known) c.self.view_is ∙ knows.known in
     let serial : c.self.inside.line.serial ≡ old.serial = ap (λ (m : Mark). m.serial) plain in
     let told : c.told.result ≡ receipt.told = c.told.ensures.told in
     let own = c.learn.ensures.own in
-    let one : (list ≡ seen) ⊎ (list ≡ receipt.told) = ⊎_elim (λ (t : list ≡ c.self.inside.seat). inl (t ∙ known)) (λ (t : list ≡ c.told.result). inr (t ∙ told)) c.learn.ensures.one in
+    let one : (list ≡ seen) ⊎ (list ≡ receipt.told) = ⊎_elim (λ (t : list ≡ c.self.inside.known). inl (t ∙ known)) (λ (t : list ≡ c.told.result). inr (t ∙ told)) c.learn.ensures.one in
     let P : List Entry → Type 0 = λ l. IsPrefix l list in
     let prefix : IsPrefix receipt.told list = subst P told c.learn.ensures.told in
     let is : receipt.entry ≡ entry_at line.place line.serial c.args.operation = c.in_ok-receipt.ensures.entry ∙ ap (λ (p : ℕ). entry_at p line.serial c.args.operation) (sym c.submit.ensures.place) in
@@ -44,7 +44,7 @@ returns-in_err-receipt-clause-list g c = λ seen knows.
     let old = c.self.inside.line in
     let new = c.submit.new.line in
     let plain : mark_of old ≡ c.args.self.now.mark = ap (λ (v : SharedValue). v.mark) c.self.view_is in
-    let known : c.self.inside.seat ≡ seen = ap (λ (v : SharedValue). v.known) c.self.view_is ∙ knows.known in
+    let known : c.self.inside.known ≡ seen = ap (λ (v : SharedValue). v.known) c.self.view_is ∙ knows.known in
     let used = used_if_open old new _ _ c.in_err-receipt.ensures.refused in
     let is : c.from_residual.result ≡ Err _ = p.1 ∙ ap (λ (f : SubmitFault). Err f) p.2 in (
       seen,

@@ -10,7 +10,7 @@ returns-clause-mark g c =
     let new = c.hand_on.new.self in
     let h = c.hand_on.ensures in
     let P : SharedValue → Type 0 = λ v. (tail : List Entry) × HandsOn v.mark tail (mark_of new) × (operations_of tail ≡ v.pending) in
-    subst P c.self.view_is (line.ahead, record { place = h.place; alone = refl; next = h.next; serial = h.serial; sent = h.sent }, refl)
+    subst P c.self.view_is (line.ahead, record { place = h.place; next = h.next; serial = h.serial; sent = h.sent }, refl)
 
 pub returns-clause-pending : goal.returns-clause-pending
 returns-clause-pending g c = ap operations_of c.hand_on.ensures.none
