@@ -4,6 +4,8 @@ The checks wait for what has to come, and PATIENCE only ends a check that hangs.
 time: a time only excuses a refused client that was held up.
 """
 
+import itertools
+
 from checks.listening_addresses import addresses, restart
 from checks.listening_clients import (
     many_clients,
@@ -35,25 +37,29 @@ from harness.server import Server
 from harness.words import run_named
 
 
+# How many clients a worked example has, and how many places: as many, then fewer, then one.
+CROWDS = ({"places": 3}, {"places": 2, "clients": 3}, {"places": 1, "clients": 3})
+
+
 def worked_examples():
-    """Those that no clock changes are the same through a connection. One place serves the
-    connections of an example in turn, for one client, and then for three that share it."""
+    """Those that no clock changes are the same through a connection: one client serves all of an
+    example in turn, and then three do."""
     every = examples()
     chosen = [each for each in every if not any(own.moments for own in each.connections)]
-    for example in chosen:
-        run_example(example)
     # Which of three clients a connection gets is not known, and an identifier that it is given
     # depends on that.
     shared = [each for each in chosen if not any(map(is_named, each.connections))]
-    for example in shared:
-        run_example(example, clients=3)
+    for example in chosen:
+        run_example(example, places=1)
+    for example, crowd in itertools.product(shared, CROWDS):
+        run_example(example, **crowd)
     counts = f"{len(chosen)} of {len(every)} worked examples are the same"
-    print(f"listening: {counts}, {len(shared)} of them also with more clients than places")
+    print(f"listening: {counts}, {len(shared)} of them also for three clients")
 
 
-def run_example(example, clients=None):
+def run_example(example, **options):
     topics, count = example.topics or 10_000, len(example.connections)
-    with Server(places=1, clients=clients, topics=topics, connections=count) as server:
+    with Server(topics=topics, connections=count, **options) as server:
         for connection in example.connections:
             with Client(server) as client:
                 for sent, answer in connection.turns:

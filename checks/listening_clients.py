@@ -1,4 +1,4 @@
-"""More clients than places: clients that share a place. Part of `checks/listening`."""
+"""More clients than places: a few threads serve them. Part of `checks/listening`."""
 
 import contextlib
 
@@ -40,11 +40,12 @@ def publish_and_read(clients, payload):
 
 def many_clients(count=300, rounds=5):
     """Clients that share four places are connected at the same time, publish and read. Nothing is
-    lost, and no two are given the same identifier."""
+    lost, and each is given the identifier of its line's first connection."""
     with Server(places=4, clients=count, connections=count + 1) as server:
         clients = [Client(server) for _ in range(count)]
         identifiers = {given_identifier(client) for client in clients}
-        wanted(len(identifiers) == count, "an identifier was given twice")
+        lines = {b"rs%d-1" % number for number in range(1, count + 1)}
+        wanted(identifiers == lines, "another identifier was given")
         for turn in range(rounds):
             publish_and_read(clients, b"%d" % turn)
         for client in clients:

@@ -26,7 +26,7 @@ from harness.program import preloaded
 from harness.server import Server, start
 from harness.sessions import WAITING
 
-VISIT = r"([0-9]+) place ([0-9]+), connection ([0-9]+), ([0-9.]+:[0-9]+)"
+VISIT = r"([0-9]+) (place|client) ([0-9]+), connection ([0-9]+), ([0-9.]+:[0-9]+)"
 LINE = re.compile(rf"\[INFO  rstored\] {VISIT}: (.*)")
 COUNTS = r"([0-9]+) packets, ([0-9]+) bytes in, ([0-9]+) bytes out"
 END = re.compile(rf"(.*), {COUNTS}(?:, refused (.*))?")
@@ -44,33 +44,31 @@ OLD_CONNECT = bytes.fromhex("100D00044D5154540402003C000161")
 OLD_REFUSED = bytes.fromhex("2003008400")
 
 
-def visits(errors, places, is_shared=False):
-    """The connections that a log tells of: by peer, how each ended, its packets and bytes, and
-    what it was refused, if anything.
+def visits(errors, places=1, clients=1):
+    """The connections that the log of a server of so many places and clients tells of: by peer, how
+    each ended, its packets and bytes, and what it was refused, if anything.
 
-    Each begins once and ends once, in the order in which its place had them. A place that clients
-    share has several at a time, and no two of the same number.
+    Each begins once and ends once, in the order in which its client had them, which count from 1.
+    If there are as many clients as places, the log calls each by its place.
     """
-    current, numbers, told = {}, {place: [0] for place in range(1, places + 1)}, {}
+    whose = "client" if places < clients else "place"
+    current, numbers, told = {}, dict.fromkeys(range(1, clients + 1), 0), {}
     for line in errors.splitlines():
         if STORE.fullmatch(line):
             continue
         found = LINE.fullmatch(line)
         wanted(found, f"a line of the log is {line!r}")
-        moment, place, number = map(int, found.group(1, 2, 3))
-        peer, what = found.group(4, 5)
+        moment, client, number = map(int, found.group(1, 3, 4))
+        peer, what = found.group(5, 6)
         wanted(abs(moment - time()) < PATIENCE, f"{line!r} has another time")
-        visit = (place, number) if is_shared else place
+        wanted(found[2] == whose and client in numbers, f"{line!r} tells of nobody")
         if what == "connected":
-            is_next = (
-                number not in numbers[place] if is_shared else number == numbers[place][-1] + 1
-            )
-            wanted(visit not in current and is_next, f"{line!r} comes too early")
-            current[visit] = peer
-            numbers[place].append(number)
+            is_next = client not in current and number == numbers[client] + 1
+            wanted(is_next, f"{line!r} comes too early")
+            current[client], numbers[client] = peer, number
             continue
         end = END.fullmatch(what)
-        is_current = end and current.pop(visit, None) == peer and number in numbers[place]
+        is_current = end and current.pop(client, None) == peer and number == numbers[client]
         wanted(is_current, f"{line!r} ends another connection")
         wanted(peer not in told, f"{line!r} ends a connection again")
         told[peer] = (end[1], *map(int, end.group(2, 3, 4)), *filter(None, [end[5]]))
@@ -115,8 +113,8 @@ ENDS = (
 
 
 def each_end():
-    """The log says of each connection how it ended, with its packets and bytes, also if clients
-    share the place."""
+    """The log says of each connection how it ended, with its packets and bytes, also with more
+    clients than places."""
     for clients in (1, 3):
         ends_of(clients)
 
@@ -137,7 +135,7 @@ def ends_of(clients):
             client.send(filters)
             status, printed, errors = server.ended()
     wanted((status, printed) == (0, f"rstored: served {count}\n"), "another end")
-    told = visits(errors, 1, clients > 1)
+    told = visits(errors, 1, clients)
     for peer, end in expected.items():
         wanted(told.get(peer) == end, f"the log has {told.get(peer)} in the place of {end}")
     ending, packets, read, written = told[stuck]
@@ -164,7 +162,7 @@ def a_late_write():
     wanted(status == 0, "another end")
     began, ended = (int(line.split()[2]) for line in errors.splitlines()[-2:])
     wanted(began < ended, f"it began at {began} and ended at {ended}")
-    ending, _, _, written = visits(errors, 1)[stuck]
+    ending, _, _, written = visits(errors)[stuck]
     is_right = ending == "the write failed or was idle" and written < 100 * 60_000
     wanted(is_right, f"a client that never reads ended as {ending} after {written} bytes")
 
@@ -178,7 +176,7 @@ def of_the_store(errors):
 def refused(errors):
     """What a log says that each connection was refused, by peer, or None."""
     lines = (LINE.fullmatch(line) for line in errors.splitlines())
-    ends = ((line[4], END.fullmatch(line[5])) for line in lines if line)
+    ends = ((line[5], END.fullmatch(line[6])) for line in lines if line)
     return {peer: end[5] for peer, end in ends if end}
 
 
@@ -218,7 +216,7 @@ def a_long_answer(count=WAITING // 2 + 1):
             client.ask(stored + subscribe([b"#", b"t/#"]), suback(b"\x00\x97") + stored)
             client.disconnect()
         _, _, errors = server.ended()
-    told = visits(errors, 1)[peer]
+    told = visits(errors)[peer]
     wanted(told[1] == count + 3, f"{told[1]} packets came")
     wanted(told[4:] == ("1 filters (too many messages)",), f"a long answer is told as {told}")
 
@@ -267,7 +265,7 @@ def sixty_four_at_once(rounds=5, clients=64):
             status, printed, errors = ended.result()
         wanted((status, printed) == (0, f"rstored: served {clients * rounds}\n"), "another end")
         end = ("client disconnected", 2, len(CONNECT + DISCONNECT), len(CONNACK))
-        told = visits(errors, places, places < clients)
+        told = visits(errors, places, clients)
         wanted(told == dict.fromkeys(peers, end), "the log tells of other connections")
 
 

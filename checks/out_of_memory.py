@@ -4,7 +4,7 @@ Whole sessions go through the program. Each time it must end with status 0, and 
 of a session that was refused memory at one packet, which keeps nothing of that packet and takes it
 when it comes again; or with status 1, write all replies before one, and say on standard error what
 failed: never another answer. The program rs_refusals does the same with the calls of a catalogue,
-of a window, of a store of versions, of the queue to its writer, and of clients that share a place.
+of a window, of a store of versions, of the queue to its writer, and of clients that share a seat.
 """
 
 import os
@@ -162,13 +162,9 @@ def main():
         for count in (1, 2):
             # A submit takes memory for its job, and the writer takes it for its replies.
             held = 2 if count > 1 else 0
-            least = {
-                "a submit that makes no entry": 2,
-                "a submit whose entry is held": held,
-                "the last submit": held,
-            }
-            calls("queue", least, library, count)
-            calls("clients", least, library, count)
+            least = {"a submit that makes no entry": 2, "a submit whose entry is held": held}
+            calls("queue", least | {"the last submit": held}, library, count)
+            calls("clients", least | {"an answer": 2}, library, count)
 
 
 if __name__ == "__main__":

@@ -151,7 +151,9 @@ fn play_named<
     requires store { (blank.history ≡ N.history) × (blank.limit ≡ N.limit) }
     requires queue { (queue.name ≡ N.queue) × (queue.places ≡ N.places) }
 {
-    let (writer, seats) = blank.open::<N, R>(rt).ok()?;
+    let Ok((writer, seats)) = blank.open::<N, R>(rt) else {
+        return None;
+    };
     let (intake, lines, queue) = queue.open::<N>().ok()?;
     let mut gates = open_gates(rt, alloc, intake, seats, lines).ok()?;
     let mut ends = Vec::with_capacity(alloc, gates.len()).ok()?;
