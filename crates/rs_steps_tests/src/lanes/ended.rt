@@ -20,7 +20,7 @@ use std::test::Fail;
 /// How many clients there are, and how many connections each has.
 const CLIENTS: u16 = 8;
 
-const EACH: u64 = 25_000;
+const EACH: u64 = 2_500;
 
 /// A retained publication of QoS 1, and its PUBACK.
 const PUBLISH: &[u8] = b"\x33\x07\x00\x01a\x01\x01\x00x";
@@ -91,7 +91,7 @@ impl Turn for Publisher {
     }
 }
 
-/// Each of 200,000 connections comes back to the turn that gave it, under the next number, with its replies and how it ended.
+/// Each of 20,000 connections comes back to the turn that gave it, under the next number, with its replies and how it ended.
 #[test]
 fn each_connection_comes_back(rt: HostRuntime) -> Result<(), Fail> {
     let alloc = rt.alloc();
