@@ -1,0 +1,4 @@
+pub mod Fields
+pub mod Law
+pub mod Properties
+pub mod Records
