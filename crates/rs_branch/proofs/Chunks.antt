@@ -366,6 +366,31 @@ module _ (q : List ℕ) (cs : List ChildValue) (i j : ℕ) (c : ChildValue) (e :
 pub gap_first : (q : List ℕ) (cs : List ChildValue) (i : ℕ) → i ≡ 0 → IsEdge (IsNotBefore q) q cs i → IsGap q cs 0
 gap_first q cs i e edge = let P : ℕ → Type 0 = λ m. IsEdge (IsNotBefore q) q cs m in subst P e edge
 
+-- ---- a child that is named
+
+-- a child whose messages reach from its level up to the next one
+rises : (k n : List ℕ) (ss : Spots) → IsFull ss → IsFrom k ss → IsUpTo n ss → level_cmp k n ≡ Less
+rises k n [] full f u = absurd full
+rises k n (s ∷ ss) full f u = at (level_cmp k n) refl
+  where
+    not : level_cmp k n ≢ Less → ⊥
+    not nl = f.0 (between s.0 (n ∷ []) (k ∷ []) u.0 (level_not k n [] nl))
+
+    at : (o : Ordering) → level_cmp k n ≡ o → level_cmp k n ≡ Less
+    at Less e = e
+    at Equal e = absurd (not (λ h. cc (e, h)))
+    at Greater e = absurd (not (λ h. cc (e, h)))
+
+named_at : (q : List ℕ) (cs : List ChildValue) (i : ℕ) (c : ChildValue) → IsChunk cs → i < length cs → Takes q (get_or cs i c) → q ≡ (get_or cs i c).level → IsIn q cs i
+named_at q [] i c r small t e = absurd (omega (arith, small))
+named_at q (d ∷ []) zero c r small t e = (t, tt)
+named_at q (d ∷ n ∷ cs) zero c r small t e = (t, let P : List ℕ → Type 0 = λ w. level_cmp w n.level ≡ Less in subst P (sym e) (rises d.level n.level d.spots r.0 r.1 r.2))
+named_at q (d ∷ cs) (suc i) c r small t e = named_at q cs i c r.3 (omega (arith, small)) t e
+
+pub named_in : (q : List ℕ) (cs : List ChildValue) (i : ℕ) (c : ChildValue) → IsChunk cs → i < length cs → c ≡ get_or cs i c → Takes q c → q ≡ c.level → IsIn q cs i
+named_in q cs i c r small is t e =
+    named_at q cs i c r small (let P : ChildValue → Type 0 = λ w. Takes q w in subst P is t) (e ∙ ap (λ (w : ChildValue). w.level) is)
+
 -- ---- one child, below its level
 
 pub there_under : (k : List ℕ) (p path : Path) (w : Spots) → path ≡ k ∷ p → is_there p w ≡ is_there path (under k w)

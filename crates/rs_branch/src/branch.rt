@@ -6,7 +6,7 @@ ghost use Rattle.std.specs.List.{insert};
 ghost use Rattle.std.specs.Ordering.{nat_cmp};
 ghost use Rattle.std.specs.declared.cmp.Ordering.TheVariants.{Less};
 ghost use Rattle.rs_branch.specs.Nodes.{depth_of, is_chunk, spots_of};
-ghost use Rattle.rs_branch.specs.Chunks.{IsEdge, IsGap, IsIn, IsNotBefore, Passes, Takes};
+ghost use Rattle.rs_branch.specs.Chunks.{IsChunk, IsEdge, IsGap, IsIn, IsNotBefore, Passes, Takes};
 
 mod answers;
 mod chunks;
@@ -22,6 +22,7 @@ mod remains;
 mod set;
 mod sweep;
 
+use crate::index_path::IndexPath;
 pub use remains::Remains;
 use rs_bucket::{Bucket, Label, Sought, copy_retained};
 use rs_message::Found;
@@ -158,6 +159,18 @@ impl Child {
         }
     }
 
+    /// It is no chunk, and has this level.
+    fn is_named(&self, level: &Sought<'_>) -> bool
+        ensures taken { IsTrue result → Takes level.now self.now }
+        ensures same { IsTrue result → level.now ≡ self.now.level }
+    {
+        match &self.below {
+            Below::Few(_) => level.is_same(&self.level),
+            Below::Inner(_) => level.is_same(&self.level),
+            Below::Chunk(_) => false,
+        }
+    }
+
     /// One more owner of the same messages.
     fn copy(&self) -> Result<Child, AllocError>
         ensures { IfOk result (λ c. c ≡ self.now) }
@@ -221,19 +234,66 @@ fn first_behind(children: &[Child], level: &Sought<'_>) -> usize
 }
 
 /// The index of the child that a level belongs to, or else the index where it would stand.
+fn find(children: &[Child], level: &Sought<'_>) -> Result<usize, usize>
+    ensures found { MatchResult result (λ i. IsIn level.now children.now i) (λ i. IsGap level.now children.now i) }
+    ensures within { IfOk result (λ i. i < length children.now) }
+    ensures up_to { IfErr result (λ i. i ≤ length children.now) }
+{
+    let i = first_behind(children, level);
+    if i == 0 {
+        return Err(0);
+    }
+    if children[i - 1].takes(level) {
+        Ok(i - 1)
+    } else {
+        Err(i)
+    }
+}
+
+/// The same of a level that is looked for once.
 fn index_of(children: &[Child], level: &[u8]) -> Result<usize, usize>
     ensures found { MatchResult result (λ i. IsIn level.now children.now i) (λ i. IsGap level.now children.now i) }
     ensures within { IfOk result (λ i. i < length children.now) }
     ensures up_to { IfErr result (λ i. i ≤ length children.now) }
 {
+    find(children, &Sought::new(level))
+}
+
+/// There is a child at the index, and the level belongs to it.
+fn is_at(children: &[Child], level: &Sought<'_>, i: usize) -> bool
+    requires { IsChunk children.now }
+    ensures found { IsTrue result → IsIn level.now children.now i }
+    ensures within { IsTrue result → i < length children.now }
+{
+    if i >= children.len() {
+        return false;
+    }
+    if children[i].is_named(level) {
+        return true;
+    }
+    if children[i].is_behind(level) || !children[i].takes(level) {
+        return false;
+    }
+    i + 1 == children.len() || children[i + 1].is_behind(level)
+}
+
+/// The index of the child that a level belongs to, which the path may know and notes, or else the index where it would stand.
+fn index_along(children: &[Child], level: &[u8], path: &mut IndexPath) -> Result<usize, usize>
+    requires { IsChunk children.now }
+    ensures found { MatchResult result (λ i. IsIn level.now children.now i) (λ i. IsGap level.now children.now i) }
+    ensures within { IfOk result (λ i. i < length children.now) }
+    ensures up_to { IfErr result (λ i. i ≤ length children.now) }
+{
     let sought = Sought::new(level);
-    let i = first_behind(children, &sought);
-    if i == 0 {
-        return Err(0);
+    if let Some(i) = path.hint() {
+        if is_at(children, &sought, i) {
+            path.note(i);
+            return Ok(i);
+        }
     }
-    if children[i - 1].takes(&sought) {
-        Ok(i - 1)
-    } else {
-        Err(i)
+    let found = find(children, &sought);
+    if let Ok(i) = found {
+        path.note(i);
     }
+    found
 }

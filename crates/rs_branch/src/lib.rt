@@ -5,9 +5,13 @@
 //! first message expires, and answers a filter, each exactly as its messages say. It shares its nodes with its copies: a node is changed
 //! in place while it has one owner, and copied otherwise, so a copy never changes. If memory is refused, the messages stay as they were.
 //!
+//! An [`IndexPath`] keeps where a Set went, for another copy that is alike.
+//!
 //! [`Remains`] are the nodes that a Sweep took out, until later entries have dropped them.
 #![tactic(auto)]
 
 mod branch;
+mod index_path;
 
 pub use branch::{Branch, Remains};
+pub use index_path::IndexPath;

@@ -14,7 +14,7 @@ ghost use Rattle.rs_store.specs.declared.limit.TheConstants.{MAX_TOPICS};
 ghost use Rattle.rs_tree.specs.Trees.{ArePlaced, IsTree};
 
 use crate::root::Root;
-use rs_branch::Remains;
+use rs_branch::{IndexPath, Remains};
 use rs_message::{Found, Operation};
 use rs_store::{Answer, Messages, Stop, TopicLimit};
 use rs_topic::{TopicFilter, TopicName};
@@ -46,7 +46,13 @@ impl Model for TreeMessages {
 }
 
 /// Sets one topic and returns how many hold a message then. If memory is refused, nothing changes.
-fn set_one(root: &mut Root, alloc: Global, count: u32, found: Found) -> Result<u32, AllocError>
+fn set_one(
+    root: &mut Root,
+    alloc: Global,
+    count: u32,
+    found: Found,
+    path: &mut IndexPath,
+) -> Result<u32, AllocError>
     requires placed { ArePlaced root.old }
     requires sorted { IsStrictlySortedBy topic_cmp (keys_of (pairs root.old)) }
     requires counted { length (pairs root.old) ≡ count }
@@ -56,7 +62,7 @@ fn set_one(root: &mut Root, alloc: Global, count: u32, found: Found) -> Result<u
     ensures placed { ArePlaced root.new }
     ensures refused { OnErr result (root.new ≡ root.old) }
 {
-    let was = root.set(alloc, found)?;
+    let was = root.set(alloc, found, path)?;
     if was { Ok(count) } else { Ok(count + 1) }
 }
 
@@ -121,6 +127,7 @@ fn change(
     alloc: Global,
     count: u32,
     operation: Operation,
+    path: &mut IndexPath,
 ) -> Result<u32, AllocError>
     requires placed { ArePlaced root.old }
     requires sorted { IsStrictlySortedBy topic_cmp (keys_of (pairs root.old)) }
@@ -132,7 +139,7 @@ fn change(
     ensures refused { OnErr result (root.new ≡ root.old) }
 {
     match operation {
-        Operation::Set(found) => set_one(root, alloc, count, found),
+        Operation::Set(found) => set_one(root, alloc, count, found, path),
         Operation::Clear(topic) => clear_one(root, alloc, count, &topic),
         Operation::Sweep(moment) => sweep(root, remains, alloc, moment),
     }
@@ -221,12 +228,20 @@ impl TreeMessages {
         &mut self,
         remains: &mut Remains,
         operation: Operation,
+        path: &mut IndexPath,
     ) -> Result<(), AllocError>
         requires { length self.old ≤ MAX_TOPICS }
         ensures done { OnOk result (self.new ≡ after self.old operation) }
         ensures refused { OnErr result (self.new ≡ self.old) }
     {
-        let count = change(&mut self.root, remains, self.alloc, self.count, operation)?;
+        let count = change(
+            &mut self.root,
+            remains,
+            self.alloc,
+            self.count,
+            operation,
+            path,
+        )?;
         self.count = count;
         Ok(())
     }

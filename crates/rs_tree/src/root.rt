@@ -13,7 +13,7 @@ ghost use Rattle.rs_bucket.specs.Sweeping.{is_expired_spot, spot_stays};
 ghost use Rattle.rs_store.specs.declared.limit.TheConstants.{MAX_TOPICS};
 ghost use Rattle.rs_store.specs.Room.{IsStop};
 
-use rs_branch::{Branch, Remains};
+use rs_branch::{Branch, IndexPath, Remains};
 use rs_bucket::Cleared;
 use rs_message::Found;
 use rs_store::{Answer, Stop};
@@ -66,12 +66,17 @@ impl Root {
     }
 
     /// Sets the message of its topic, and returns whether there was one. If memory is refused, nothing changes.
-    pub fn set(&mut self, alloc: Global, found: Found) -> Result<bool, AllocError>
+    pub fn set(
+        &mut self,
+        alloc: Global,
+        found: Found,
+        path: &mut IndexPath,
+    ) -> Result<bool, AllocError>
         ensures done { OnOk result (self.new ≡ insert_entry path_cmp self.old (levels_from 0 found.topic) found) }
         ensures existed { IfOk result (λ was. was ≡ is_there (levels_from 0 found.topic) self.old) }
         ensures refused { OnErr result (self.new ≡ self.old) }
     {
-        let was = Branch::set_in(&mut self.branch, alloc, found, 0)?;
+        let was = Branch::set_in(&mut self.branch, alloc, found, 0, path)?;
         // A message that takes another one's place adds no child.
         if was {
             return Ok(true);

@@ -7,6 +7,7 @@ use std::test::Fail;
 
 mod alike;
 mod examples;
+mod followed;
 mod joined;
 mod lengths;
 mod snapshots;

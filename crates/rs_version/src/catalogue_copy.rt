@@ -46,4 +46,20 @@ impl Absorb<CopyStep> for CatalogueCopy {
         self.prefix = step.after.again();
         Ok(())
     }
+
+    /// The other copy has just done the same step, so both look in the same places. The step is given back if memory is refused, so its
+    /// entry is copied here, too.
+    fn absorb_second(&mut self, step: CopyStep, other: &CatalogueCopy) -> Result<(), CopyStep> {
+        if self.catalogue.accepts(&step.entry).is_err() {
+            return Err(step);
+        }
+        let Ok(entry) = step.entry.copy() else {
+            return Err(step);
+        };
+        let Ok(()) = self.catalogue.apply_like(entry, &other.catalogue) else {
+            return Err(step);
+        };
+        self.prefix = step.after;
+        Ok(())
+    }
 }

@@ -10,7 +10,8 @@ ghost use Rattle.rs_branch.specs.Nodes.{stem_spots};
 ghost use Rattle.rs_branch.specs.Chunks.{Leads};
 
 use super::chunks::branch_of_stem;
-use super::{Below, Branch, Child, Stem, index_of, insert_at};
+use super::{Below, Branch, Child, Stem, index_along, index_of, insert_at};
+use crate::index_path::IndexPath;
 use rs_bucket::{Bucket, Label, Leaves, shared_levels, skip_chain};
 use rs_message::Found;
 use rs_topic::level_at;
@@ -109,6 +110,7 @@ impl Child {
         found: Found,
         at: usize,
         next: usize,
+        path: &mut IndexPath,
     ) -> Result<bool, AllocError>
         requires full { IsFull self.old.spots }
         requires leads { Leads self.old (levels_from at found.topic) (levels_from next found.topic) }
@@ -123,8 +125,8 @@ impl Child {
                 self.split(alloc);
                 return done;
             }
-            Below::Inner(stem) => return Stem::set(stem, alloc, found, next),
-            Below::Chunk(chunk) => return Branch::set_in(chunk, alloc, found, at),
+            Below::Inner(stem) => return Stem::set(stem, alloc, found, next, path),
+            Below::Chunk(chunk) => return Branch::set_in(chunk, alloc, found, at, path),
         }
     }
 }
@@ -184,7 +186,13 @@ impl Stem {
 
     /// Sets the message at the rest of its topic, and returns whether there was one. If memory is refused, nothing changes.
     #[cycle(set)]
-    fn set_here(&mut self, alloc: Global, found: Found, at: usize) -> Result<bool, AllocError>
+    fn set_here(
+        &mut self,
+        alloc: Global,
+        found: Found,
+        at: usize,
+        path: &mut IndexPath,
+    ) -> Result<bool, AllocError>
         requires { IsFull self.old.branch.spots }
         ensures done { OnOk result (stem_spots self.new ≡ insert_entry path_cmp (stem_spots self.old) (levels_from at found.topic) found) }
         ensures existed { IfOk result (λ was. was ≡ is_there (levels_from at found.topic) (stem_spots self.old)) }
@@ -193,7 +201,7 @@ impl Stem {
         let Some(next) = skip_chain(self.chain.as_slice(), found.topic().as_bytes(), at) else {
             return self.set_beside(alloc, found, at);
         };
-        let was = self.branch.set(alloc, found, next)?;
+        let was = self.branch.set(alloc, found, next, path)?;
         // A message that takes another one's place adds no child.
         if was {
             return Ok(true);
@@ -204,7 +212,13 @@ impl Stem {
 
     /// The same in place if the stem has one owner, and else in a copy.
     #[cycle(set)]
-    fn set(this: &mut Arc<Stem>, alloc: Global, found: Found, at: usize) -> Result<bool, AllocError>
+    fn set(
+        this: &mut Arc<Stem>,
+        alloc: Global,
+        found: Found,
+        at: usize,
+        path: &mut IndexPath,
+    ) -> Result<bool, AllocError>
         requires { IsFull (arc_value this.old).branch.spots }
         ensures done { OnOk result (stem_spots (arc_value this.new)
             ≡ insert_entry path_cmp (stem_spots (arc_value this.old)) (levels_from at found.topic) found) }
@@ -212,10 +226,10 @@ impl Stem {
         ensures refused { OnErr result (stem_spots (arc_value this.new) ≡ stem_spots (arc_value this.old)) }
     {
         if let Some(stem) = Arc::get_mut(this) {
-            return stem.set_here(alloc, found, at);
+            return stem.set_here(alloc, found, at, path);
         }
         let mut copy = this.copy(alloc)?;
-        let was = copy.set_here(alloc, found, at)?;
+        let was = copy.set_here(alloc, found, at, path)?;
         *this = Arc::new(alloc, copy)?;
         Ok(was)
     }
@@ -247,7 +261,13 @@ impl Branch {
 
     /// Sets the message at the rest of its topic, and returns whether there was one. If memory is refused, nothing changes.
     #[cycle(set)]
-    pub(crate) fn set(&mut self, alloc: Global, found: Found, at: usize) -> Result<bool, AllocError>
+    pub(crate) fn set(
+        &mut self,
+        alloc: Global,
+        found: Found,
+        at: usize,
+        path: &mut IndexPath,
+    ) -> Result<bool, AllocError>
         ensures done { OnOk result (self.new.spots ≡ insert_entry path_cmp self.old.spots (levels_from at found.topic) found) }
         ensures existed { IfOk result (λ was. was ≡ is_there (levels_from at found.topic) self.old.spots) }
         ensures refused { OnErr result (self.new.spots ≡ self.old.spots) }
@@ -257,9 +277,9 @@ impl Branch {
             self.retained = Some(found);
             return Ok(was);
         };
-        match index_of(self.children.as_slice(), level) {
+        match index_along(self.children.as_slice(), level, path) {
             Ok(i) => {
-                let was = self.children[i].set(alloc, found, at, next)?;
+                let was = self.children[i].set(alloc, found, at, next, path)?;
                 if was {
                     return Ok(true);
                 }
@@ -282,6 +302,7 @@ impl Branch {
         alloc: Global,
         found: Found,
         at: usize,
+        path: &mut IndexPath,
     ) -> Result<bool, AllocError>
         ensures done { OnOk result ((arc_value this.new).spots
             ≡ insert_entry path_cmp (arc_value this.old).spots (levels_from at found.topic) found) }
@@ -289,10 +310,10 @@ impl Branch {
         ensures refused { OnErr result ((arc_value this.new).spots ≡ (arc_value this.old).spots) }
     {
         if let Some(branch) = Arc::get_mut(this) {
-            return branch.set(alloc, found, at);
+            return branch.set(alloc, found, at, path);
         }
         let mut copy = this.copy(alloc)?;
-        let was = copy.set(alloc, found, at)?;
+        let was = copy.set(alloc, found, at, path)?;
         *this = Arc::new(alloc, copy)?;
         Ok(was)
     }

@@ -27,7 +27,7 @@ struct Snapshot {
 }
 
 /// What a tree shows: all its messages at moments at which more and more of them are expired, and its numbers.
-fn shown_by(
+pub fn shown_by(
     alloc: Global,
     tree: &TreeCatalogue,
     filter: &TopicFilter,

@@ -10,7 +10,7 @@ use std::test::Fail;
 const MANY: u64 = 1500;
 
 /// A topic of one level, or of two, named by a number.
-fn name_of(alloc: Global, number: u64) -> Result<Vec<u8>, Fail> {
+pub fn name_of(alloc: Global, number: u64) -> Result<Vec<u8>, Fail> {
     let mut name = Vec::new(alloc);
     let mut left = number;
     for _ in 0..4 {
