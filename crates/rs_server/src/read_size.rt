@@ -3,13 +3,13 @@
 ghost use Rattle.std.specs.Prelude.{◌<◌, ◌≤◌};
 ghost use Rattle.rs_server.specs.declared.read_size.TheConstants.{MAX_READ, MIN_READ};
 
-/// How many bytes the buffer of a client that is waited for has.
+/// How many bytes a read asks for, of a client that sends little.
 pub(crate) const MIN_READ: usize = 1024;
 
 /// How many bytes one read may ask for.
 const MAX_READ: usize = 32 * 1024;
 
-/// How many bytes the buffer has room for when a read begins: few for a client that is waited for, and more the longer its reads are full.
+/// How many bytes the buffer has room for when a read begins: few for a client that sends little, and more the longer its reads are full.
 #[derive(Drop)]
 pub(crate) struct ReadSize {
     bytes: usize,
@@ -21,11 +21,6 @@ impl ReadSize {
     /// Of a client that sent nothing yet.
     pub(crate) fn new() -> ReadSize {
         ReadSize { bytes: MIN_READ }
-    }
-
-    /// Whether a buffer of so many bytes has more room than the next read needs.
-    pub(crate) fn is_below(&self, capacity: usize) -> bool {
-        self.bytes < capacity
     }
 
     /// How many bytes to ask for, if `len` bytes are buffered of a packet that takes at least `needed`.

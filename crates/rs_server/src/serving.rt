@@ -177,7 +177,7 @@ impl<G: Gate> Serving<G> {
         ensures waits { result ≡ None → Waits self.new }
         ensures cause { (failures : ℕ) → CausesEnd result failures failures (failures_of writer.old) (failures_of writer.new) }
     {
-        handle_all(
+        let end = handle_all(
             rt,
             alloc,
             writer,
@@ -186,7 +186,9 @@ impl<G: Gate> Serving<G> {
             &mut self.planned,
             &mut self.handled,
             clock,
-        )
+        );
+        give_back(alloc, &mut self.buffered, &mut self.planned);
+        end
     }
 
     /// Reads once, and plans what is whole then. Changes are announced if there are `least` of them.
@@ -208,7 +210,7 @@ impl<G: Gate> Serving<G> {
         ensures waits { Waits self.new }
         ensures cause { (failures : ℕ) → CausesEnd result (failures_of reader.old) (failures_of reader.new) failures failures }
     {
-        match read_more(alloc, reader, &mut self.buffered, &mut self.size) {
+        match read_more(reader, &mut self.buffered, &mut self.size) {
             Ok(None) => {}
             Ok(Some(served)) => return Some(Ok(served)),
             Err(fault) => return Some(Err(fault)),
@@ -277,16 +279,16 @@ fn handle_all<H: Wait, W: Write, G: Gate, C: Clock>(
     unreachable!()
 }
 
-/// Gives back the memory that the next read does not need, if nothing is buffered.
-fn give_back(alloc: Global, buffered: &mut BytesMut, size: &ReadSize)
-    ensures { buffered.new.items ≡ buffered.old.items }
+/// Gives back the memory of what was read and of what was planned, if nothing is left of it: a client that is waited for keeps neither.
+fn give_back(alloc: Global, buffered: &mut BytesMut, planned: &mut VecDeque<Incoming>)
+    ensures buffered { buffered.new.items ≡ buffered.old.items }
+    ensures planned { planned.new.items ≡ planned.old.items }
 {
-    if !buffered.is_empty() {
-        return;
-    }
-    buffered.clear();
-    if size.is_below(buffered.capacity()) {
+    if buffered.is_empty() {
         *buffered = BytesMut::new(alloc);
+    }
+    if planned.is_empty() {
+        *planned = VecDeque::new(alloc);
     }
 }
 
@@ -309,7 +311,6 @@ fn make_room(buffered: &mut BytesMut, wanted: usize) -> Option<usize>
 
 /// Reads once and appends to what is buffered.
 fn read_more<R: Read>(
-    alloc: Global,
     reader: &mut Counted<R>,
     buffered: &mut BytesMut,
     size: &mut ReadSize,
@@ -320,7 +321,6 @@ fn read_more<R: Read>(
     ensures end { IsEnd result buffered.old.items buffered.new.items (IsAtEnd (R.remaining (inner_of reader.new))) }
     ensures cause { IsReadCause result (failures_of reader.old) (failures_of reader.new) }
 {
-    give_back(alloc, buffered, size);
     let len = buffered.len();
     let wanted = size.bytes_to_ask(len, needed_len(buffered.as_slice()));
     let Some(asked) = make_room(buffered, wanted) else {

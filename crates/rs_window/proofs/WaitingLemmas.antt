@@ -1,6 +1,6 @@
 -- Lemmas on messages that wait.
-use Rattle.std.specs.Prelude.{is_some}
-use Rattle.std.proofs.Common.{◌≡◌, ◌⊎◌, ℕ, ◌<◌, ◌≤◌, ◌^◌, ◌||◌, List, [], ◌∷◌, length, Option, Bool, true, false, cond, nat_lt, refl, sym, ap, subst, ◌∙◌, inl, inr, arith}
+use Rattle.std.specs.Prelude.{is_some, map}
+use Rattle.std.proofs.Common.{◌≡◌, ◌⊎◌, ℕ, ◌<◌, ◌≤◌, ◌^◌, ◌||◌, List, [], ◌∷◌, ◌++◌, length, Option, Bool, true, false, cond, nat_lt, refl, sym, ap, subst, ◌∙◌, inl, inr, arith}
 use Rattle.std.proofs.lemmas.Bool.Decides.{nat_tests}
 use Rattle.rs_message.specs.declared.qos.Qos.{Qos}
 use Rattle.rs_message.specs.declared.qos.Qos.TheVariants as qos
@@ -15,8 +15,10 @@ use Rattle.rs_packet.specs.declared.reply.Reply.TheVariants as reply
 use Rattle.rs_message.specs.declared.message.Remaining.{Remaining}
 use Rattle.rs_message.specs.declared.message.Remaining.TheVariants.{Forever, Left, Expired}
 use Rattle.rs_message.specs.Messages.{remaining_of, is_over}
+use Rattle.rs_message.specs.declared.found.Found.{Found}
 use Rattle.rs_window.specs.declared.waiting.Waiting.{Waiting}
-use Rattle.rs_window.specs.Waiting.{is_dropped, sendable, lesser_qos, some_id, len_with, packet_len, IsDropped}
+use Rattle.rs_window.specs.Fields.{NeedNone}
+use Rattle.rs_window.specs.Waiting.{is_dropped, granted_at, sendable, lesser, lesser_qos, some_id, len_with, packet_len, IsDropped}
 
 pub some_id_fits : (quality : Qos) → IdFits quality (some_id quality)
 some_id_fits qos.AtMostOnce = tt
@@ -90,3 +92,44 @@ sendable_fewer packet_maximum now (w ∷ ws) = by_case (is_dropped packet_maximu
     by_case : (b : Bool) → length (sendable packet_maximum now ws) ≤ length ws → length (cond b (sendable packet_maximum now ws) (w ∷ ws)) ≤ length (w ∷ ws)
     by_case true h = omega arith
     by_case false h = omega arith
+
+-- ---- what needs no identifier
+
+granted_none : (granted : Qos) (subscription : Option ℕ) (found : List Found) → granted ≡ qos.AtMostOnce → NeedNone (map (granted_at granted subscription) found)
+granted_none granted subscription [] is = tt
+granted_none granted subscription (f ∷ fs) is = (is, granted_none granted subscription fs is)
+
+appended_none : (granted : Qos) (subscription : Option ℕ) (found : List Found) → (granted ≡ qos.AtMostOnce) ⊎ (found ≡ []) → NeedNone (map (granted_at granted subscription) found)
+appended_none granted subscription [] none = tt
+appended_none granted subscription (f ∷ fs) (inl is) = granted_none granted subscription (f ∷ fs) is
+appended_none granted subscription (f ∷ fs) (inr is) = absurd (cc (is))
+
+-- what was granted QoS 0, or nothing, behind what needs none
+pub still_none : (granted : Qos) (subscription : Option ℕ) (waiting : List Waiting) (found : List Found) → NeedNone waiting → (granted ≡ qos.AtMostOnce) ⊎ (found ≡ []) → NeedNone (waiting ++ map (granted_at granted subscription) found)
+still_none granted subscription [] found before none = appended_none granted subscription found none
+still_none granted subscription (w ∷ ws) found before none = (before.0, still_none granted subscription ws found before.1 none)
+
+-- what is left to be sent needs none either
+pub sendable_none : (packet_maximum now : ℕ) (ws : List Waiting) → NeedNone ws → NeedNone (sendable packet_maximum now ws)
+sendable_none packet_maximum now [] none = tt
+sendable_none packet_maximum now (w ∷ ws) none = by_case (is_dropped packet_maximum now w) (sendable_none packet_maximum now ws none.1)
+  where
+    by_case : (b : Bool) → NeedNone (sendable packet_maximum now ws) → NeedNone (cond b (sendable packet_maximum now ws) (w ∷ ws))
+    by_case true h = h
+    by_case false h = none
+
+least : (published granted : Qos) → granted ≡ qos.AtMostOnce → lesser published granted ≡ qos.AtMostOnce
+least qos.AtMostOnce qos.AtMostOnce is = refl
+least qos.AtLeastOnce qos.AtMostOnce is = refl
+least qos.ExactlyOnce qos.AtMostOnce is = refl
+least published qos.AtLeastOnce is = absurd (cc (is))
+least published qos.ExactlyOnce is = absurd (cc (is))
+
+-- the first of them is sent at QoS 0
+pub first_at_zero : (w : Waiting) (ws rest : List Waiting) → ws ≡ w ∷ rest → NeedNone ws → lesser_qos w ≡ qos.AtMostOnce
+first_at_zero w [] rest is none = absurd (cc (is))
+first_at_zero w (v ∷ vs) rest is none = let same : v ≡ w = cc (is) in subst (λ (x : Waiting). lesser_qos x ≡ qos.AtMostOnce) same (least v.found.message.qos v.granted none.0)
+
+-- what stands behind the first
+pub rest_none : (w : Waiting) (ws rest : List Waiting) → ws ≡ w ∷ rest → NeedNone ws → NeedNone rest
+rest_none w ws rest is none = let all : NeedNone (w ∷ rest) = subst NeedNone is none in all.1

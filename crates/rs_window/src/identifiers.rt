@@ -1,12 +1,14 @@
 //! The identifiers of PUBLISH packets that were sent and are not yet acknowledged.
 
-ghost use Rattle.std.specs.Prelude.{◌≡◌, ◌≢◌, ◌+◌, ◌<◌, ◌≤◌, ◌^◌, Some, None, IsSome, true, false};
+ghost use Rattle.std.specs.Prelude.{◌≡◌, ◌≢◌, ◌+◌, ◌<◌, ◌≤◌, ◌^◌, Some, None, IsSome, OnErr, OnOk, true, false};
 ghost use Rattle.std.specs.FinMap as map;
 ghost use Rattle.slab.specs.Slab.{slab_len, HasRoomFor};
+ghost use Rattle.rs_window.specs.Fields.{AreReserved};
 ghost use Rattle.rs_window.specs.Identifiers.{kinds_of, IsNumbered, kinds_given};
 
 use rs_packet::{PacketId, Qos};
 use slab::Slab;
+use std::alloc::AllocError;
 
 /// What an identifier in use waits for.
 #[derive(Clone, Copy, Debug, PartialEq, Eq)]
@@ -24,6 +26,42 @@ fn slot_of(id: PacketId) -> usize
     ensures { result + 1 ≡ id }
 {
     id.get() as usize - 1
+}
+
+/// Reserves the slots for the whole quota, whose numbers plus 1 are identifiers.
+pub(crate) fn reserve_slots(identifiers: &mut Slab<Kind>, quota: usize) -> Result<(), AllocError>
+    requires within { slab_len identifiers.old ≤ quota }
+    ensures reserved { OnOk result (AreReserved identifiers.new quota) }
+    ensures refused { OnErr result (AreReserved identifiers.old quota → AreReserved identifiers.new quota) }
+    ensures kinds { kinds_of identifiers.new ≡ kinds_of identifiers.old }
+    ensures len { slab_len identifiers.new ≡ slab_len identifiers.old }
+{
+    let additional = quota - identifiers.len();
+    identifiers.reserve_exact(additional)?;
+    // An identifier is the number of a slot plus 1, and has two bytes (2.2.1).
+    // Never: there are as many slots as were asked for. The slab's contract allows more.
+    if identifiers.capacity() > usize::from(u16::MAX) {
+        return Err(AllocError);
+    }
+    Ok(())
+}
+
+/// The same, if they are needed.
+pub(crate) fn reserve_if(
+    identifiers: &mut Slab<Kind>,
+    quota: usize,
+    is_needed: bool,
+) -> Result<(), AllocError>
+    requires within { slab_len identifiers.old ≤ quota }
+    ensures reserved { OnOk result (is_needed ≡ true → AreReserved identifiers.new quota) }
+    ensures refused { OnErr result (AreReserved identifiers.old quota → AreReserved identifiers.new quota) }
+    ensures kinds { kinds_of identifiers.new ≡ kinds_of identifiers.old }
+    ensures len { slab_len identifiers.new ≡ slab_len identifiers.old }
+{
+    if is_needed {
+        reserve_slots(identifiers, quota)?;
+    }
+    Ok(())
 }
 
 /// What the identifier waits for, if it is in use.
@@ -79,8 +117,7 @@ pub(crate) fn take_identifier(
 ) -> Option<PacketId>
     requires within { slab_len identifiers.old ≤ quota }
     requires free { qos ≢ Qos.AtMostOnce → slab_len identifiers.old < quota }
-    requires reserved { quota ≤ identifiers.old.capacity }
-    requires small { identifiers.old.capacity < 2 ^ 16 }
+    requires reserved { qos ≢ Qos.AtMostOnce → AreReserved identifiers.old quota }
     ensures numbered { IsNumbered (kinds_of identifiers.old) quota qos result }
     ensures kinds { kinds_of identifiers.new ≡ kinds_given qos result (kinds_of identifiers.old) }
     ensures len { slab_len identifiers.new ≤ quota }

@@ -1,10 +1,11 @@
 //! What waits to be sent to one client: messages join at the end and leave at the head.
 
-ghost use Rattle.std.specs.Prelude.{◌≡◌, ◌≢◌, ◌<◌, ◌≤◌, ◌^◌, ◌∷◌, ◌++◌, IfSome, IfNone, OnOk, OnErr, is_some, map, nat_lt};
+ghost use Rattle.std.specs.Prelude.{◌≡◌, ◌≢◌, ◌⊎◌, ◌<◌, ◌≤◌, ◌∷◌, ◌++◌, [], false, IfSome, IfNone, OnOk, OnErr, is_some, map, nat_lt};
 ghost use Rattle.slab.specs.Slab.{slab_len};
 ghost use Rattle.rs_window.specs.Identifiers.{kinds_of, IsNumbered, kinds_given};
 ghost use Rattle.rs_window.specs.Waiting.{granted_at, lesser_qos, len_with, is_dropped, sendable};
 ghost use Rattle.rs_window.specs.Calls.{NeedsQuota};
+ghost use Rattle.rs_window.specs.Fields.{AreReserved, NeedNone};
 
 use crate::identifiers::{Kind, may_be_sent, take_identifier};
 use rs_message::{Found, Remaining};
@@ -27,6 +28,21 @@ pub struct Waiting {
     pub granted: Qos,
     /// The Subscription Identifier of the subscription, None if it has none (3.8.2.1.2).
     pub subscription: Option<SubscriptionId>,
+}
+
+/// Whether slots are reserved, or one of these messages may need an identifier.
+pub(crate) fn need_slots(is_reserved: bool, found: &[Found], granted: Qos) -> bool
+    ensures kept { result ≡ false → is_reserved ≡ false }
+    ensures none { result ≡ false → (granted ≡ Qos.AtMostOnce) ⊎ (found.now ≡ []) }
+{
+    if is_reserved {
+        return true;
+    }
+    match granted {
+        Qos::AtMostOnce => false,
+        Qos::AtLeastOnce => !found.is_empty(),
+        Qos::ExactlyOnce => !found.is_empty(),
+    }
 }
 
 /// Appends all of them in order, or none if memory is refused.
@@ -113,8 +129,7 @@ pub(crate) fn take_first(
     quota: usize,
 ) -> Option<(Waiting, Option<PacketId>)>
     requires within { slab_len identifiers.old ≤ quota }
-    requires reserved { quota ≤ identifiers.old.capacity }
-    requires small { identifiers.old.capacity < 2 ^ 16 }
+    requires reserved { NeedNone waiting.old.items ⊎ AreReserved identifiers.old quota }
     ensures kept { IfNone result (waiting.new.items ≡ waiting.old.items) }
     ensures same { IfNone result (identifiers.new ≡ identifiers.old) }
     ensures needs_quota { IfNone result (NeedsQuota (kinds_of identifiers.old) quota waiting.old.items) }

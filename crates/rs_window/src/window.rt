@@ -7,8 +7,10 @@ ghost use Rattle.rs_window.specs.Waiting.{lesser_qos, interval_sent, packet_at};
 ghost use Rattle.rs_window.specs.Calls.{fresh, IsQueued, IsNext, IsAcknowledged, Puback, Pubrec, Pubcomp};
 
 use crate::fault::{Ack, WindowFault};
-use crate::identifiers::{Kind, change_kind, free_identifier, kind_at};
-use crate::waiting::{MAX_WAITING, Waiting, append, drop_unsendable, lesser_of, take_first};
+use crate::identifiers::{Kind, change_kind, free_identifier, kind_at, reserve_if, reserve_slots};
+use crate::waiting::{
+    MAX_WAITING, Waiting, append, drop_unsendable, lesser_of, need_slots, take_first,
+};
 use rs_message::{Found, Message, Remaining};
 use rs_packet::{PacketId, PublishReply, Qos, Reply, SubscriptionId};
 use slab::Slab;
@@ -111,6 +113,8 @@ pub struct Window {
     waiting: VecDeque<Waiting>,
     quota: usize,
     packet_maximum: u32,
+    // Whether slots are reserved for all identifiers of the quota. Without them, nothing waits that needs an identifier.
+    is_reserved: bool,
 }
 
 impl Model for Window {
@@ -130,7 +134,7 @@ impl Model for Window {
       packet_maximum = w.packet_maximum;
     } };
 
-    ghost invariant = { λ w. IsInBounds w.identifiers w.waiting.items w.quota };
+    ghost invariant = { λ w. IsInBounds w.identifiers w.waiting.items w.quota w.is_reserved };
 }
 
 impl Window {
@@ -148,18 +152,30 @@ impl Window {
         ensures { IfOk result (λ w. w ≡ fresh receive_maximum packet_maximum) }
     {
         let quota = receive_maximum.min(MAX_QUOTA) as usize;
-        let identifiers = Slab::with_capacity(alloc, quota)?;
-        // An identifier is the number of a slot plus 1, and has two bytes (2.2.1).
-        // Never: there are as many slots as were asked for. The slab's contract allows more.
-        if identifiers.capacity() > usize::from(u16::MAX) {
-            return Err(AllocError);
-        }
+        let mut identifiers = Slab::new(alloc);
+        reserve_slots(&mut identifiers, quota)?;
         Ok(Window {
             identifiers,
             waiting: VecDeque::new(alloc),
             quota,
             packet_maximum,
+            is_reserved: true,
         })
+    }
+
+    /// The same, but no memory is reserved before a message that is granted QoS 1 or 2 is queued.
+    pub fn idle(alloc: Global, receive_maximum: u16, packet_maximum: u32) -> Window
+        requires receives { 0 < receive_maximum }
+        requires takes { 0 < packet_maximum }
+        ensures { result ≡ fresh receive_maximum packet_maximum }
+    {
+        Window {
+            identifiers: Slab::new(alloc),
+            waiting: VecDeque::new(alloc),
+            quota: receive_maximum.min(MAX_QUOTA) as usize,
+            packet_maximum,
+            is_reserved: false,
+        }
     }
 
     /// The client's Maximum Packet Size, in bytes (3.1.2.11.4).
@@ -189,10 +205,15 @@ impl Window {
         if found.len() > self.room() {
             return Err(WindowFault::TooManyWaiting);
         }
-        match append(&mut self.waiting, found, granted, subscription) {
-            Ok(()) => Ok(()),
-            Err(_) => Err(WindowFault::NoMemory),
-        }
+        let is_needed = need_slots(self.is_reserved, &found, granted);
+        let Ok(()) = reserve_if(&mut self.identifiers, self.quota, is_needed) else {
+            return Err(WindowFault::NoMemory);
+        };
+        self.is_reserved = is_needed;
+        let Ok(()) = append(&mut self.waiting, found, granted, subscription) else {
+            return Err(WindowFault::NoMemory);
+        };
+        Ok(())
     }
 
     /// The next message to be sent, at `now` in seconds. Messages before it that have expired, or whose packets are longer

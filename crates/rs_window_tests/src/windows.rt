@@ -158,7 +158,7 @@ fn check_calls(
     Ok(())
 }
 
-/// The same with a new window, of these two maxima, which are not 0.
+/// The same with new windows, of these two maxima, which are not 0: one whose slots are reserved, and one whose are not.
 fn check_window(
     rt: &impl Abort,
     alloc: Global,
@@ -170,6 +170,8 @@ fn check_window(
         return Err(Fail::from("a maximum is 0"));
     }
     let mut window = Window::new(alloc, receive_maximum, packet_maximum)?;
+    check_calls(rt, alloc, &mut window, rows)?;
+    let mut window = Window::idle(alloc, receive_maximum, packet_maximum);
     check_calls(rt, alloc, &mut window, rows)
 }
 

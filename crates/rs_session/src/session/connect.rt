@@ -102,19 +102,18 @@ impl<G: Gate> Session<G> {
         ensures keeps { IfOk result (λ r. r.1 ≡ open_for c.now) }
     {
         let connack = self.connack(c)?;
-        let begun = self.open_for(c)?;
-        Ok((connack, begun))
+        Ok((connack, self.open_for(c)))
     }
 
     /// What the session keeps once it is open.
-    fn open_for(&self, c: &Connect) -> Result<Open, AllocError>
-        ensures { IfOk result (λ begun. begun ≡ open_for c.now) }
+    fn open_for(&self, c: &Connect) -> Open
+        ensures { result ≡ open_for c.now }
     {
-        Ok(Open {
+        Open {
             subscriptions: Subscriptions::new(self.alloc),
             inbound: Inbound::new(),
-            window: Window::new(self.alloc, receive_maximum(c), packet_maximum(c))?,
-        })
+            window: Window::idle(self.alloc, receive_maximum(c), packet_maximum(c)),
+        }
     }
 
     /// A CONNACK that refuses, to a client that takes it, and the end.
