@@ -7,8 +7,10 @@
 #![tactic(auto)]
 
 mod client;
+mod client_queue;
 mod each;
 mod lane;
+mod lane_clients;
 mod pool;
 mod runner;
 mod threads;

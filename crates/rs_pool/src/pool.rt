@@ -5,6 +5,8 @@
 //! thread goes on meanwhile. Those that have changes are served by one thread, one after the other, which sleeps once until the writer has
 //! replied to all. If a thread is held up, by a client that does not read or by the writer, another one goes on with those that were read.
 
+ghost use Rattle.std.specs.Prelude.{◌≡◌, false, IfNone};
+
 use crate::client::Client;
 use crate::lane::{Lane, Progress};
 use crate::watch::Watch;
@@ -97,9 +99,9 @@ impl<C: Client<H> + Drop, H: Wait + Copy, W: Watch<C::In> + Drop> Pool<C, H, W> 
             .unwrap_or(0)
     }
 
-    /// How far the threads of a lane are.
-    pub(crate) fn progress(&self, lane: usize) -> Option<Progress> {
-        Some(self.lanes.get(lane)?.progress(&self.rt))
+    /// How far the threads of a lane came since the last look. This look is the last one then.
+    pub(crate) fn look(&self, lane: usize) -> Option<Progress> {
+        Some(self.lanes.get(lane)?.look(&self.rt))
     }
 
     /// Wakes the threads of a lane that sleep. Who serves the clients that have changes may be held up, so another thread may serve them.
@@ -124,8 +126,11 @@ impl<C: Client<H> + Drop, H: Wait + Copy, W: Watch<C::In> + Drop> Pool<C, H, W> 
         }
     }
 
-    /// Has the client watched, which lies in its slot then. If it has something to do at once, it is given back.
-    fn rest(&self, number: usize, client: C) -> Option<C> {
+    /// Has the client watched, which lies in its slot then. If it has something to do at once, it is given back: so what was read is handled
+    /// before.
+    fn rest(&self, number: usize, client: C) -> Option<C>
+        ensures { IfNone result (C.is_read client ≡ false) }
+    {
         let (client, is_written) = client.write_out(&self.watch);
         let Some(slot) = self.slots.get(number) else {
             return Some(client);
@@ -180,7 +185,7 @@ impl<C: Client<H> + Drop, H: Wait + Copy, W: Watch<C::In> + Drop> Pool<C, H, W> 
         if let Some(client) = self.take(number) {
             self.serve(number, client);
         }
-        lane.count_served();
+        lane.note_served();
     }
 
     /// Serves the clients that were read and have no changes.
@@ -210,18 +215,17 @@ impl<C: Client<H> + Drop, H: Wait + Copy, W: Watch<C::In> + Drop> Pool<C, H, W> 
         }
     }
 
-    /// Reads these clients. If some have no changes, which is the answer, it wakes a thread that goes on meanwhile.
-    fn read_all(&self, lane: &Lane, numbers: &mut [usize]) -> bool {
+    /// Reads the clients of which a thread of the lane was told. If some have no changes, which is the answer, it wakes a thread that goes on
+    /// meanwhile.
+    fn read_told(&self, lane: &Lane) -> bool {
         let mut is_any_alone = false;
-        // Those that have changes are moved to the front.
-        let mut changed = 0;
-        for index in 0..numbers.len() {
-            let number = numbers[index];
+        for _ in self.rt.forever() {
+            // One by one, so that the others are left to another thread if this one is held up.
+            let Some(number) = lane.next_told(&self.rt) else {
+                break;
+            };
             match self.read(number) {
-                Some(true) => {
-                    numbers[changed] = number;
-                    changed += 1;
-                }
+                Some(true) => lane.add_changed(&self.rt, number),
                 Some(false) => {
                     lane.add_alone(&self.rt, number);
                     is_any_alone = true;
@@ -229,7 +233,6 @@ impl<C: Client<H> + Drop, H: Wait + Copy, W: Watch<C::In> + Drop> Pool<C, H, W> 
                 None => {}
             }
         }
-        lane.add_together(&self.rt, &numbers[..changed]);
         if is_any_alone {
             lane.hand_on(&self.rt);
         }
@@ -240,10 +243,11 @@ impl<C: Client<H> + Drop, H: Wait + Copy, W: Watch<C::In> + Drop> Pool<C, H, W> 
     fn read_now(&self, lane: &Lane, index: usize) -> bool {
         let mut numbers = [0usize; MOST_TOLD];
         let count = self.watch.look(index, &mut numbers);
-        self.read_all(lane, &mut numbers[..count])
+        lane.add_told(&self.rt, &numbers[..count]);
+        self.read_told(lane)
     }
 
-    /// Waits until clients of the lane have something to do, and reads them. False if all clients are done.
+    /// Waits until clients of the lane have something to do, which are to be read then. False if all clients are done.
     fn watch(&self, lane: &Lane, index: usize) -> bool {
         let mut numbers = [0usize; MOST_TOLD];
         let told = self.watch.wait(&self.rt, index, &mut numbers);
@@ -251,7 +255,7 @@ impl<C: Client<H> + Drop, H: Wait + Copy, W: Watch<C::In> + Drop> Pool<C, H, W> 
         let Some(count) = told else {
             return false;
         };
-        self.read_all(lane, &mut numbers[..count]);
+        lane.add_told(&self.rt, &numbers[..count]);
         true
     }
 
@@ -261,6 +265,7 @@ impl<C: Client<H> + Drop, H: Wait + Copy, W: Watch<C::In> + Drop> Pool<C, H, W> 
             return;
         };
         for _ in self.rt.forever() {
+            self.read_told(lane);
             self.serve_alone(lane);
             if lane.begins_to_serve(&self.rt) {
                 self.serve_together(lane, index);

@@ -1,7 +1,8 @@
 //! The threads of the lanes: two for each, and more while those of a lane are held up.
 
+ghost use Rattle.std.specs.Prelude.{◌≡◌, ◌-◌, min};
+
 use crate::client::Client;
-use crate::lane::Left;
 use crate::pool::Pool;
 use crate::watch::Watch;
 use std::alloc::{AllocError, Global};
@@ -16,23 +17,24 @@ const LANE_STACK: usize = 256 * 1024;
 /// How often the threads of each lane are looked at, in milliseconds.
 const LOOK: u64 = 20;
 
-/// How far the threads of a lane were at the last look.
-#[derive(Clone, Copy)]
-struct Looked {
-    threads: usize,
-    served: u64,
-    alone: Left,
-    together: Left,
+/// How many threads a lane needs more, of which so many of these sleep and the others are held up: until as many sleep as are held up, but no
+/// more than `most` in all.
+fn more_threads(threads: usize, asleep: usize, most: usize) -> usize
+    ensures { result ≡ min ((threads - asleep) - asleep) (most - threads) }
+{
+    let held_up = threads.saturating_sub(asleep);
+    let wanted = held_up.saturating_sub(asleep);
+    wanted.min(most.saturating_sub(threads))
 }
 
-/// The threads of all lanes, and how far they were.
+/// The threads of all lanes.
 #[derive(Drop)]
 struct LaneThreads<C: Drop, H: Drop, W: Drop> {
     rt: H,
     pool: Arc<Pool<C, H, W>>,
     all: Vec<JoinHandle<()>>,
-    // The lanes that have a thread.
-    lanes: Vec<Looked>,
+    // How many each lane has, of those that have a thread.
+    lanes: Vec<usize>,
 }
 
 impl<
@@ -58,18 +60,11 @@ impl<
             if !begun.start(lane) {
                 break;
             }
-            let _ = begun.lanes.push(Looked {
-                threads: 1,
-                served: 0,
-                alone: Left::none(),
-                together: Left::none(),
-            });
+            let _ = begun.lanes.push(1);
         }
         for lane in 0..begun.lanes.len() {
-            let threads = begun.help(lane, 1).saturating_add(1);
-            if let Some(looked) = begun.lanes.get_mut(lane) {
-                looked.threads = threads;
-            }
+            let helpers = begun.help(lane, 1);
+            begun.note_started(lane, helpers);
         }
         Ok(begun)
     }
@@ -104,33 +99,30 @@ impl<
         more
     }
 
-    /// Looks at a lane. If clients were left at the last look and none of them was taken to be served since, or if no client was served since
-    /// then and no thread waits for clients, those threads that sleep are woken. If these are fewer than are held up, more are started, until
-    /// they are as many, but no more than `most` in all.
-    fn look(&mut self, lane: usize, most: usize) {
-        let Some(now) = self.pool.progress(lane) else {
-            return;
-        };
-        let Some(looked) = self.lanes.get(lane) else {
-            return;
-        };
-        let threads = looked.threads;
-        let is_left = now.alone.is_since(&looked.alone) || now.together.is_since(&looked.together);
-        let is_still = !now.is_watched && now.served == looked.served;
-        let mut more = 0;
-        if is_left || is_still {
-            self.pool.wake(lane);
-            let held_up = threads.saturating_sub(now.asleep);
-            let wanted = held_up.saturating_sub(now.asleep);
-            more = self.help(lane, wanted.min(most.saturating_sub(threads)));
+    /// How many threads the lane has.
+    fn threads_of(&self, lane: usize) -> usize {
+        self.lanes.get(lane).copied().unwrap_or(0)
+    }
+
+    /// The lane has so many threads more.
+    fn note_started(&mut self, lane: usize, more: usize) {
+        if let Some(threads) = self.lanes.get_mut(lane) {
+            *threads = threads.saturating_add(more);
         }
-        if let Some(looked) = self.lanes.get_mut(lane) {
-            *looked = Looked {
-                threads: threads.saturating_add(more),
-                served: now.served,
-                alone: now.alone,
-                together: now.together,
-            };
+    }
+
+    /// Looks at a lane. If clients were left at the last look and none of them was taken since, or if no client was served since then and no
+    /// thread waits for clients, those threads that sleep are woken. If these are fewer than are held up, more are started, until they are as
+    /// many, but no more than `most` in all.
+    fn look(&mut self, lane: usize, most: usize) {
+        let Some(now) = self.pool.look(lane) else {
+            return;
+        };
+        if now.is_left || !(now.has_served || now.is_watched) {
+            self.pool.wake(lane);
+            let more = more_threads(self.threads_of(lane), now.asleep, most);
+            let started = self.help(lane, more);
+            self.note_started(lane, started);
         }
     }
 

@@ -1,4 +1,5 @@
 -- What a client began with, wherever it is, and where a step may bring it.
+use Rattle.std.specs.Prelude.{Bool, true, false}
 use Rattle.rs_steps.specs.declared.begun.Begun.{Begun}
 use Rattle.rs_steps.specs.declared.stages.Stage.{Stage}
 use Rattle.rs_steps.specs.declared.stages.Stage.TheVariants.{Free, Served, Read, Ended, Done}
@@ -9,6 +10,14 @@ begun_of (Served begun) = begun
 begun_of (Read begun) = begun
 begun_of (Ended begun) = begun
 begun_of (Done begun) = begun
+
+-- whether something was read that is not handled yet
+abbrev pub was_read : {T G I O C E N : Type 0} → Stage T G I O C E N → Bool
+was_read (Free begun) = false
+was_read (Served begun) = false
+was_read (Read begun) = true
+was_read (Ended begun) = false
+was_read (Done begun) = false
 
 -- the step that takes its next connection brings it here: it is served, memory was refused for that, or there is no connection more
 abbrev pub IsNext : {T G I O C E N : Type 0} → Stage T G I O C E N → Type 0

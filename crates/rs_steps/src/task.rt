@@ -33,6 +33,10 @@ impl<T: Turn + Drop, G: LineGate + Drop, H: Wait> Client<H> for Task<T, G>
 where
     T::In: Send,
 {
+    ghost use Rattle.rs_steps.specs.Stages.{was_read};
+
+    ghost is_read = { λ task. was_read task.stage };
+
     type In = T::In;
 
     fn read(self, alloc: Global) -> Task<T, G> {

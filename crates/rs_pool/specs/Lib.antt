@@ -1,0 +1,2 @@
+pub mod ClientQueue
+pub mod LaneClients
