@@ -56,7 +56,7 @@ impl<N: LineName> Taken<N> {
         self.places
     }
 
-    /// Takes the oldest job. `Gone` if all lines and their ends are.
+    /// Takes the oldest job. [`Gone`] if the receive failed.
     pub(crate) fn next<R: Wait>(
         &mut self,
         rt: &R,

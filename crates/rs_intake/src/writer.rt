@@ -253,7 +253,7 @@ impl<N: LineName, R: Wait + Drop> JobWriter<N, R> {
 /// that is held the others of its job are refused. It ends when ([`Cause`])
 ///
 /// - each place has ended,
-/// - the receive of a job fails, as it does once all lines and their ends are gone, or
+/// - the receive of a job fails, or
 /// - it has taken so many entries that one more job could have more than can be counted.
 ///
 /// Then it tries once more to publish a held entry, of which no clause speaks.

@@ -1,6 +1,6 @@
 //! The lines to the writer of a store, and the ways back by which it replies.
 //!
-//! Each place has a line ([`SeatLine`]). [`Intake::submit`] sends an operation by the line, under the line's next serial, and waits for
+//! Each client has a line ([`SeatLine`]), whose number is its place. [`Intake::submit`] sends an operation by the line, under the line's next serial, and waits for
 //! the receipt of just that entry. Changes that are announced to a line ([`SeatLine::expect`]) are sent together, as one job, and submitted
 //! one by one. What a line has received of the replies is a prefix of those that were sent to it (`reply_order_law` of `rs_intake`).
 //! [`SeatLine::close`] ends a line. A type that implements [`LineName`] ties all of these to one store and one queue.

@@ -1,4 +1,4 @@
-//! The lines of the places.
+//! The lines of the clients.
 
 ghost use Rattle.std.specs.Prelude.{◌≡◌, ◌≢◌, ◌+◌, ◌-◌, ◌<◌, ◌≤◌, ◌^◌, ◌∷◌, ◌++◌, ◌⊎◌, [], List, All, length, true, false, IfErr, IfOk, IfSome, Decides, MatchBool, MatchOption, MatchResult, Err, None, Some};
 ghost use Rattle.crossbeam_channel.specs.Claims.{view as known_by};
@@ -226,7 +226,7 @@ impl<N: LineName> Model for SeatLine<N> {
 }
 
 impl<N: LineName> SeatLine<N> {
-    /// The line of a place that sent nothing, and its way back.
+    /// A line by which nothing was sent, and its way back.
     pub fn new(alloc: Global, line: LineSender<N>, replies: ReplyReceiver<N>) -> SeatLine<N>
         requires { (line.sent ≡ []) × (replies.heard ≡ []) × (replies.came ≡ []) }
         ensures line { (result.place ≡ line.place) × (result.serial ≡ 0) × (result.sent ≡ []) }

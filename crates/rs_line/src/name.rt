@@ -3,7 +3,7 @@
 use rs_version::StoreName;
 use std::marker::Brand;
 
-/// Names a store, the queue that leads to its writer, and the number of places that send by it.
+/// Names a store, the queue that leads to its writer, and the number of lines that lead there.
 ///
 /// It ties the lines, the queue and the receipts of one store together, and has no calls. A program calls a function over a name
 /// with [`Brand`], and picks the members there, after the store and the queue were made (see

@@ -50,9 +50,9 @@ pub struct Summary {
 impl Server {
     /// Binds an address: a host's name, an IPv4 or an IPv6 address, and a port, as `localhost:1883` or `[::1]:1883`. Port 0 takes one
     /// that is free. It will accept `connections` connections, none if that is 0, and serve `clients` clients at the same time, but at
-    /// least as many as there are `places`, and at most [`MAX_LINES`]. At each place one client at a time reads the store. The store is
-    /// empty, and holds messages of at most `limit` topics. If `idle` is given, a connection ends if no byte came for so long, or if no byte
-    /// of what waits for its client was taken for so long.
+    /// least as many as there are `places`, and at most [`MAX_LINES`]. For each of `places` there is a seat, by which one client at a time
+    /// takes the version that it reads. The store is empty, and holds messages of at most `limit` topics. If `idle` is given, a connection
+    /// ends if no byte came for so long, or if no byte of what waits for its client was taken for so long.
     ///
     /// # Errors
     ///
