@@ -2,8 +2,8 @@
 
 Whole sessions go through the program. Each time it must end with status 0, and write the replies
 of a session that was refused memory at one packet, which keeps nothing of that packet and takes it
-when it comes again; or with status 1, write all replies before one, and say on standard error what
-failed: never another answer. The program rs_refusals does the same with the calls of a catalogue,
+when it comes again; or with status 1, write all replies before one or before a packet, and say on
+standard error what failed: never another answer. The program rs_refusals does the same with the calls of a catalogue,
 of a window, of a store of versions, of the queue to its writer, and of clients that share a seat.
 """
 
@@ -66,11 +66,13 @@ def breaks(steps, is_hex):
     """What is said when a session is broken off, with what was written before.
 
     A reply takes memory when it is made, and none when it is written, so that `write failed` is
-    never said. A read takes memory if it is of lines of hex digits, and none if it is of bytes.
+    never said. A read takes memory for what it reads. Lines of hex digits, each a packet, are read
+    one by one, and take memory themselves.
     """
     ends = {("rstored: out of memory\n", written) for written in before_each_reply(steps)}
     if is_hex:
-        ends |= {("rstored: read failed\n", written) for written in before_each_packet(steps)}
+        for written in before_each_packet(steps):
+            ends |= {("rstored: out of memory\n", written), ("rstored: read failed\n", written)}
     return ends
 
 
@@ -135,11 +137,11 @@ def main():
     with tempfile.TemporaryDirectory() as folder:
         library = preloaded("failing_malloc", folder)
         for qos in range(3):
-            least = {"a CONNECT": 1, f"a PUBLISH of QoS {qos}": 1, "a SUBSCRIBE": 1}
+            least = {f"a PUBLISH of QoS {qos}": 1, "a SUBSCRIBE": 1}
             name = f"a short session at QoS {qos}"
             sessions(name, short_exchange(qos), least, False, library)
             sessions(f"{name} as hex digits", short_exchange(qos), least, True, library)
-        least = {"a CONNECT": 1, "a PUBLISH of QoS 1": 2, "a SUBSCRIBE": 2}
+        least = {"a PUBLISH of QoS 1": 2, "a SUBSCRIBE": 2}
         sessions("a long session", long_exchange(), least, False, library)
         places = ("at the root", "in the middle", "at a leaf", "above others")
         kinds = [f"a topic that is new {place}" for place in places]
