@@ -22,6 +22,10 @@ class Mosquitto:
 
     host = "127.0.0.1"
 
+    def __init__(self, more=""):
+        """With more lines of configuration."""
+        self.more = more
+
     def __enter__(self):
         with socket.socket() as free:
             free.bind((self.host, 0))
@@ -29,7 +33,7 @@ class Mosquitto:
         self.folder = tempfile.TemporaryDirectory()
         path = f"{self.folder.name}/mosquitto.conf"
         with open(path, "w") as file:
-            file.write(CONFIGURATION.format(port=self.port))
+            file.write(CONFIGURATION.format(port=self.port) + self.more)
         silent = {"stdout": subprocess.DEVNULL, "stderr": subprocess.DEVNULL}
         self.run = subprocess.Popen(["/usr/sbin/mosquitto", "-c", path], **silent)
         start = time.monotonic()
@@ -43,7 +47,10 @@ class Mosquitto:
         with socket.socket() as client:
             return client.connect_ex((self.host, self.port)) == 0
 
-    def __exit__(self, *_):
+    def stop(self):
         self.run.kill()
         self.run.wait()
+
+    def __exit__(self, *_):
+        self.stop()
         self.folder.cleanup()
