@@ -3,8 +3,9 @@
 Whole sessions go through the program. Each time it must end with status 0, and write the replies
 of a session that was refused memory at one packet, which keeps nothing of that packet and takes it
 when it comes again; or with status 1, write all replies before one or before a packet, and say on
-standard error what failed: never another answer. The program rs_refusals does the same with the calls of a catalogue,
-of a window, of a store of versions, of the queue to its writer, and of clients that share a seat.
+standard error what failed: never another answer. The program rs_refusals does the same with the
+calls of a catalogue, of a window, of a store of versions, of the queue to its writer, and of
+clients that share a seat.
 """
 
 import os

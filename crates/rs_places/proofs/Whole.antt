@@ -1,5 +1,5 @@
 -- From what is settled to one statement about a whole run.
-use Rattle.std.proofs.Common.{◌≡◌, ◌⊎◌, ⊎_elim, inl, inr, ℕ, zero, suc, ◌+◌, ◌==◌, ◌<◌, ◌≤◌, Bool, true, false, cond, List, [], ◌∷◌, ◌++◌, length, map, get_or, take, refl, sym, ap, subst, ◌∙◌, append_assoc, length-append, arith}
+use Rattle.std.proofs.Common.{◌≡◌, ◌⊎◌, ⊎_elim, inl, inr, ℕ, zero, suc, ◌+◌, ◌-◌, ◌^◌, ◌==◌, ◌<◌, ◌≤◌, Bool, true, false, cond, List, [], ◌∷◌, ◌++◌, length, map, get_or, take, refl, sym, ap, subst, ◌∙◌, append_assoc, length-append, arith}
 use Rattle.std.specs.Prelude.{Option, Some, MatchOption, slice_get}
 use Rattle.std.specs.List.{All, AllByRecursion, AllZip, filter}
 use mathlib.Core.List.{IsPrefix}
@@ -8,12 +8,14 @@ use Rattle.std.proofs.lemmas.List.Elements.{All-more, recursion_from_All}
 use Rattle.rs_message.specs.declared.entry.Entry.{Entry}
 use Rattle.rs_store.specs.History.{IsLegal}
 use Rattle.rs_version.specs.Writer.{Written, kept_of}
-use Rattle.rs_line.specs.Lines.{Line, new_line, new_lines}
+use Rattle.rs_line.specs.Lines.{Line, Received, new_line, new_lines}
 use Rattle.rs_queue.specs.Ends.{Closed}
 use Rattle.rs_queue.specs.Parts.{IsPart}
 use Rattle.rs_queue.specs.QueueRule.{of_place}
 use Rattle.rs_line.specs.Done.{IsWritten, Outcome, Told, is_refused, not_refused}
+use Rattle.rs_intake.specs.Causes.{IsCause}
 use Rattle.rs_intake.specs.Settling.{AreOfPlaces, AreTakenInOrder, EachOnce}
+use Rattle.rs_intake.specs.declared.cause.Cause.{Cause}
 use Rattle.rs_line.specs.Sweeps.{without_sweeps}
 use Rattle.rs_session.specs.Gate.{Extends, Sends}
 use Rattle.rs_turns.specs.Visits.{Place}
@@ -72,26 +74,31 @@ place_sends limit place left fresh none served =
     let (entries, sends, are) = visits_send limit 1 place.gate served.visits served.last none served.connections in
     let P : Option (List Entry) → Type 0 = λ o. Sends o entries served.last.mark.sent in
     let Q : Option (List Entry) → Type 0 = λ o. Sends (Some []) entries o in
-    let is : left.line.sent ≡ entries = subst Q (served.sent none) (subst P fresh sends) in
+    let is : left.line.sent ≡ entries = subst Q served.sent (subst P fresh sends) in
     let R : List Entry → Type 0 = λ l. ArePublications 1 place.gate served.visits l in
     subst R (sym is) are
 
 -- ---- the writer, the lines and the places
 
-abbrev writer_run : (limit places version : ℕ) (w : Written) (entries : List Entry) (ways : List Told) → IsWritten limit places entries (kept_of w) ways → IsLegal limit (kept_of w) → AreOfPlaces places entries → version ≡ length w.published
-    → IsWriterRun limit places version
-writer_run limit places version w entries ways written legal placed version_is = record {
+abbrev writer_run : (limit places version : ℕ) (w : Written) (received : Received) (cause : Cause) (ways : List Told) → IsWritten limit places received.entries (kept_of w) ways → IsLegal limit (kept_of w) → AreOfPlaces places received.entries
+    → IsCause places (2 ^ 64 - 1) received cause → version ≡ length w.published → IsWriterRun limit places version
+writer_run limit places version w received cause ways written legal placed ended version_is = record {
   history = kept_of w;
   legal = legal;
   published = w.published;
   held = w.held;
   whole = refl;
   entries = version_is;
-  taken = entries;
-  ways = ways;
-  written = written;
+  taken = received.entries;
+  outcomes = written.outcomes;
+  done = written.done;
+  not_refused_are = written.changes;
   placed = placed;
   not_refused_of = λ place. ap (of_place place) written.changes;
+  received = received;
+  received_are = refl;
+  cause = cause;
+  ended = ended;
 }
 
 pub line_of : (history entries : List Entry) (line : Closed) → IsPart (without_sweeps history) entries → Extends line.sent (of_place line.place entries) → IsLineOf history entries line
@@ -192,10 +199,6 @@ pub map_map : {A B C : Type 0} (f : B → C) (g : A → B) (xs : List A) → map
 map_map f g [] = refl
 map_map f g (x ∷ xs) = ap (λ l. f (g x) ∷ l) (map_map f g xs)
 
-pub map_same : {A : Type 0} (xs : List A) → map (λ x. x) xs ≡ xs
-map_same [] = refl
-map_same (x ∷ xs) = ap (λ l. x ∷ l) (map_same xs)
-
 -- what holds of each, and what holds of each as it is seen
 all_both : {E A B : Type 0} (f : E → A) (P : E → Type 0) (C : A → Type 0) (g : E → B) (Q : B → Type 0) → ((e : E) → P e → C (f e) → Q (g e)) → (es : List E)
     → AllByRecursion P es → AllByRecursion C (map f es) → AllByRecursion Q (map g es)
@@ -231,15 +234,16 @@ ends_once {T} {E} turns ends connections turn told line limit places gates new t
 
 -- a run of a store with a turn for each place
 pub store_run : {T E : Type 0} (turns : List T) (ends : List E) (connections : T → Connections) (turn : E → T) (told : E → List Entry) (line : E → Closed) (own limit places : ℕ) (turns_left : List T)
-    (gates : List SharedValue) (w : Written) (entries : List Entry) (ways : List Told) (version : ℕ) (changes : Option ℕ)
+    (gates : List SharedValue) (w : Written) (received : Received) (cause : Cause) (ways : List Told) (version : ℕ) (changes : Option ℕ)
     → own ≡ limit → gates ≡ new_gates places → length turns ≡ places
     → AllZip (IsPlaceServed limit) (places_of (map connections turns) gates) (map (λ e. left_at (connections (turn e)) (told e) (line e)) ends)
-    → IsWritten limit places entries (kept_of w) ways → IsLegal limit (kept_of w) → All (λ e. IsPrefix (told e) (kept_of w)) ends
-    → AreTakenInOrder entries (map line ends) → MatchOption changes (IsUnsettled entries (map line ends)) (IsSettled places entries (map line ends))
-    → AreOfPlaces places entries → version ≡ length w.published → turns_left ≡ map turn ends
+    → IsWritten limit places received.entries (kept_of w) ways → IsLegal limit (kept_of w) → All (λ e. IsPrefix (told e) (kept_of w)) ends
+    → AreTakenInOrder received.entries (map line ends) → MatchOption changes (IsUnsettled received.entries (map line ends)) (IsSettled places received.entries (map line ends))
+    → AreOfPlaces places received.entries → IsCause places (2 ^ 64 - 1) received cause → version ≡ length w.published → turns_left ≡ map turn ends
     → IsStoreRun own places (map connections turns) (map connections turns_left) version changes
-store_run {T} {E} turns ends connections turn told line own limit places turns_left gates w entries ways version changes same new turns_count served written legal known taken settled placed version_is left_is =
+store_run {T} {E} turns ends connections turn told line own limit places turns_left gates w received cause ways version changes same new turns_count served written legal known taken settled placed ended version_is left_is =
     let history = kept_of w in
+    let entries = received.entries in
     let kept = written_part limit places entries history ways written in
     let h : E → Left = λ e. left_at (connections (turn e)) (told e) (line e) in
     let left = map h ends in
@@ -258,7 +262,7 @@ store_run {T} {E} turns ends connections turn told line own limit places turns_l
     let S : List Closed → Type 0 = λ l. MatchOption changes (IsUnsettled entries l) (IsSettled places entries l) in
     let R : ℕ → Type 0 = λ l. IsStoreRun l places before (map connections turns_left) version changes in
     subst R (sym same) (record {
-      writer = writer_run limit places version w entries ways written legal placed version_is;
+      writer = writer_run limit places version w received cause ways written legal placed ended version_is;
       left = left;
       each = each_with (IsPlaceServed limit) (IsPlaceOf limit history entries) IsFresh (IsKnown history entries) (λ place end one fresh k. place_of limit history entries place end legal kept one fresh k)
           (places_of before (new_gates places)) left (subst P new served) (places_fresh before (new_lines places) (lines_fresh places)) both;

@@ -1,11 +1,13 @@
 -- A whole run of a store: its clients, each with a line of its own, whose number is its place, and the one history that they all saw.
-use Rattle.std.specs.Prelude.{◌≡◌, ℕ, List, [], ◌∷◌, ◌++◌, length, map, Option, MatchOption}
+use Rattle.std.specs.Prelude.{◌≡◌, ℕ, ◌-◌, ◌^◌, List, [], ◌∷◌, ◌++◌, length, map, Option, MatchOption}
 use Rattle.std.specs.List.{AllZip}
 use Rattle.rs_message.specs.declared.entry.Entry.{Entry}
 use Rattle.rs_store.specs.History.{IsLegal}
 use Rattle.rs_version.specs.Copies.{listed}
-use Rattle.rs_line.specs.Done.{IsWritten, Told, not_refused}
-use Rattle.rs_line.specs.Lines.{Line, new_lines}
+use Rattle.rs_line.specs.Done.{AreDone, Outcome, not_refused}
+use Rattle.rs_line.specs.Lines.{Line, Received, new_lines}
+use Rattle.rs_intake.specs.Causes.{IsCause}
+use Rattle.rs_intake.specs.declared.cause.Cause.{Cause}
 use Rattle.rs_intake.specs.Settling.{AreOfPlaces, AreTaken, EachOnce, sent_in_all}
 use Rattle.rs_line.specs.Sweeps.{without_sweeps}
 use Rattle.rs_queue.specs.Ends.{Closed}
@@ -74,14 +76,20 @@ pub record IsWriterRun (limit places version : ℕ) : Type 0 where
   pub whole : history ≡ published ++ listed held
   pub entries : version ≡ length published
   -- The writer took these entries, and each has an outcome. By these the history came to be. All of it but the Sweeps are the entries that
-  -- were not refused. The ways back by which it told them are tied to no line here.
+  -- were not refused.
   pub taken : List Entry
-  pub ways : List Told
-  pub written : IsWritten limit places taken history ways
+  pub outcomes : List Outcome
+  pub done : AreDone limit [] taken outcomes history
+  pub not_refused_are : without_sweeps history ≡ not_refused taken outcomes
   -- the entries that it took are of these places alone
   pub placed : AreOfPlaces places taken
   -- so of each place it has what was taken of the place less what was refused
-  pub not_refused_of : (place : ℕ) → of_place place (without_sweeps history) ≡ of_place place (not_refused taken written.outcomes)
+  pub not_refused_of : (place : ℕ) → of_place place (without_sweeps history) ≡ of_place place (not_refused taken outcomes)
+  -- It ended for this cause: it took an End of each place, or as many entries as it can count, or a receive failed
+  pub received : Received
+  pub received_are : received.entries ≡ taken
+  pub cause : Cause
+  pub ended : IsCause places (2 ^ 64 - 1) received cause
 
 -- A store of so many new places was run, each of them a client's line. Each place served its turn, from that before to that after; the
 -- writer published so many entries; and so many changes are settled, or it is known that not all were taken. Nothing is said of seats and of

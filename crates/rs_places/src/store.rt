@@ -14,7 +14,7 @@ use rs_intake::{BlankQueue, Ended, Queue, run_writer};
 use rs_line::{Intake, LineName, SeatLine};
 use rs_pool::{Runner, Watch};
 use rs_steps::run_places;
-use rs_turns::{PlacesEnd, StoreFault, Turn};
+use rs_turns::{FreeGate, PlacesEnd, StoreFault, Turn};
 use rs_version::{Blank, Seat, Told, VersionWriter};
 use std::alloc::{AllocError, Global};
 use std::marker::Brand;
@@ -41,13 +41,14 @@ fn own_gates<N: LineName, H: Wait + Copy>(
     intake: Arc<Intake<N>>,
     seats: Vec<Seat<N>>,
     lines: Vec<SeatLine<N>>,
-) -> Result<Vec<SharedGate<N, H>>, AllocError>
+) -> Result<Vec<FreeGate<SharedGate<N, H>>>, AllocError>
     ensures { IfOk result (λ gates. gates.items ≡ gates_of seats.items lines.items) }
 {
     let mut gates = Vec::new(alloc);
     for (seat, line) in seats.into_iter().zip(lines) {
         let intake = Arc::try_clone(&intake)?;
-        let Ok(()) = gates.push(SharedGate::new(rt, intake, seat, line)) else {
+        let gate = SharedGate::new(rt, intake, seat, line);
+        let Ok(()) = gates.push(FreeGate::new(gate)) else {
             return Err(AllocError);
         };
     }
@@ -62,7 +63,7 @@ fn sharing_gates<N: LineName, H: Wait + Copy>(
     seats: Arc<Seats<N>>,
     known: Told<N>,
     lines: Vec<SeatLine<N>>,
-) -> Result<Vec<SharedGate<N, H>>, AllocError>
+) -> Result<Vec<FreeGate<SharedGate<N, H>>>, AllocError>
     ensures { IfOk result (λ gates. gates.items ≡ map (λ line. handed_on known line) lines.items) }
 {
     let mut gates = Vec::new(alloc);
@@ -71,7 +72,7 @@ fn sharing_gates<N: LineName, H: Wait + Copy>(
         let intake = Arc::try_clone(&intake)?;
         let seats = Arc::try_clone(&seats)?;
         let gate = SharedGate::sharing(rt, intake, seats, index, known.again(), line);
-        let Ok(()) = gates.push(gate) else {
+        let Ok(()) = gates.push(FreeGate::new(gate)) else {
             return Err(AllocError);
         };
         index = index.saturating_add(1);
@@ -90,7 +91,7 @@ pub fn open_gates<N: LineName, H: Wait + Copy>(
     intake: Intake<N>,
     seats: Vec<Seat<N>>,
     lines: Vec<SeatLine<N>>,
-) -> Result<Vec<SharedGate<N, H>>, AllocError>
+) -> Result<Vec<FreeGate<SharedGate<N, H>>>, AllocError>
     ensures own { IfOk result (λ gates. length seats.items ≡ length lines.items → gates.items ≡ gates_of seats.items lines.items) }
     ensures same { IfOk result (λ gates. (known : List Entry) → All (λ seat. seat ≡ known) seats.items
         → gates.items ≡ map (λ line. handed_on known line) lines.items) }
@@ -109,17 +110,19 @@ pub fn open_gates<N: LineName, H: Wait + Copy>(
 }
 
 /// What the writer's thread promises: the list that it keeps came to be by the outcomes of the entries that it took, each line was told
-/// those of its own entries, and these are of its lines alone.
+/// those of its own entries, these are of its lines alone, and why it ended.
 #[derive(Drop)]
 struct PutsJobs;
 
 impl<N: LineName, R: Wait + Drop> Promise<Ended<N, R>> for PutsJobs {
+    ghost use Rattle.std.specs.Prelude.{◌-◌, ◌^◌};
     ghost use Rattle.rs_line.specs.Done.{IsWritten};
+    ghost use Rattle.rs_intake.specs.Causes.{IsCause};
     ghost use Rattle.rs_intake.specs.Settling.{AreOfPlaces};
     ghost use Rattle.rs_version.specs.Writer.{kept_of};
 
     ghost kept_by = { λ promise ended. IsWritten N.limit N.places ended.received.entries (kept_of ended.writer) ended.ways.items
-        × AreOfPlaces N.places ended.received.entries };
+        × AreOfPlaces N.places ended.received.entries × IsCause N.places (2 ^ 64 - 1) ended.received ended.cause };
 }
 
 /// The writer's thread.

@@ -85,8 +85,8 @@ fn put_row(alloc: Global, script: &mut Script, row: &Row<'_>) -> Result<(), Allo
 /// Turns for so many places.
 pub fn scripts(alloc: Global, counts: &Arc<Counts>, places: u8) -> Result<Vec<Script>, AllocError> {
     let mut scripts = Vec::new(alloc);
-    for _ in 0..places {
-        scripts.push(Script::new(alloc, Arc::try_clone(counts)?))?;
+    for place in 1..=places {
+        scripts.push(Script::new(alloc, Arc::try_clone(counts)?, u16::from(place)))?;
     }
     Ok(scripts)
 }

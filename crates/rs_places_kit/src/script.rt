@@ -158,14 +158,29 @@ impl Clock for ScriptClock {
 pub struct Script {
     alloc: Global,
     counts: Arc<Counts>,
+    place: u16,
+    /// How many it has given.
+    given: u64,
     waiting: VecDeque<ScriptConnection>,
 }
 
+/// Whether a connection may have ended so if its reader and its writer failed so often: at a fault, the one that it names did, and no other.
+fn is_cause(served: ServeResult, reads: u64, writes: u64) -> bool {
+    match served {
+        Err(ServeFault::Read) => reads > 0 && writes == 0,
+        Err(ServeFault::Write) => reads == 0 && writes > 0,
+        _ => reads == 0 && writes == 0,
+    }
+}
+
 impl Script {
-    pub fn new(alloc: Global, counts: Arc<Counts>) -> Script {
+    /// For the client of this place.
+    pub fn new(alloc: Global, counts: Arc<Counts>, place: u16) -> Script {
         Script {
             alloc,
             counts,
+            place,
+            given: 0,
             waiting: VecDeque::new(alloc),
         }
     }
@@ -208,6 +223,7 @@ impl Turn for Script {
         if !comes(&self.counts.ended, course.after) {
             return None;
         }
+        self.given = self.given.saturating_add(1);
         Some(Connection {
             input: FaultyStream {
                 inner: VecDeque::from_vec(input),
@@ -243,10 +259,14 @@ impl Turn for Script {
         let EndedConnection {
             connection,
             served,
-            ..
+            tally: _,
+            place,
+            number,
         } = ended;
+        let (reads, writes) = (connection.input.failures(), connection.output.failures());
+        let is_own = place == self.place && number == self.given && is_cause(served, reads, writes);
         let output = connection.output.into_inner();
-        if output.is_right(served) && !connection.clock.is_alone {
+        if is_own && output.is_right(served) && !connection.clock.is_alone {
             self.counts.right.fetch_add(1, Ordering::SeqCst);
         }
         if output.is_closed(served) {

@@ -168,7 +168,10 @@ fn tried<H: Wait + Threads + Copy + Send + Sync + 'static, N: LineName + Send + 
         lines,
         queue,
     } = open::<N, H>(rt, blank, queue)?;
-    let mut gates = open_gates(rt, alloc, intake, seats, lines)?;
+    let mut gates = Vec::new(alloc);
+    for gate in open_gates(rt, alloc, intake, seats, lines)? {
+        gates.push(gate.into_gate())?;
+    }
     let mut ends = Vec::with_capacity(alloc, gates.len())?;
     let writer = start(rt, queue, writer)?;
     let told = submit_groups(alloc, &mut gates, groups, &all);

@@ -35,7 +35,7 @@ place_served limit number first now connections told line so_far next told_is pl
           (took_more first.connections.ended now.connections.ended connections.ended (map (λ (v : Visit). v.ending) so_far.visits) [] so_far.ended next.ended);
       told = told_is;
       number = place ∙ so_far.place;
-      sent = λ none. no_tail now.gate.mark.sent line.sent sent.0 now.gate.pending sent.1 sent.2 (so_far.pending none);
+      sent = no_tail now.gate.mark.sent line.sent sent.0 now.gate.pending sent.1 sent.2 so_far.pending;
       closed = closed;
       line = of_line;
     }

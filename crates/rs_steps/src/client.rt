@@ -1,6 +1,6 @@
 //! The steps by which a client is served, whichever thread makes them.
 
-ghost use Rattle.std.specs.Prelude.{◌≡◌};
+ghost use Rattle.std.specs.Prelude.{◌≡◌, []};
 ghost use Rattle.rs_session.specs.State.{gate_of};
 ghost use Rattle.rs_server.specs.Counts.{failures_of, inner_of};
 ghost use Rattle.rs_server.specs.Serving.{session_of};
@@ -22,6 +22,7 @@ use std::sync::Wait;
 impl<T: Turn + Drop, G: LineGate + Drop> FreeClient<T, G> {
     /// A client of this turn and this gate. Its connections are numbered from 1 on.
     pub(crate) fn new(turn: T, gate: G) -> FreeClient<T, G>
+        requires { (G.shared gate).pending ≡ [] }
         ensures turn { result.turn.value ≡ turn }
         ensures gate { result.gate.value ≡ gate }
     {

@@ -10,7 +10,7 @@ use crate::end_cell::{ClientEnd, client_ends};
 use crate::stages::FreeClient;
 use crate::task::Task;
 use rs_pool::{Runner, Watch};
-use rs_turns::{LineGate, PlaceEnd, PlacesEnd, StoreFault, StoreGate, Turn};
+use rs_turns::{FreeGate, LineGate, PlaceEnd, PlacesEnd, StoreFault, StoreGate, Turn};
 use std::alloc::{AllocError, Global};
 use std::sync::Wait;
 use std::thread::{Threads, yield_now};
@@ -22,10 +22,11 @@ type EndAt<T, G> = PlaceEnd<<G as StoreGate>::Name, <G as LineGate>::End, T>;
 fn make_task<T: Turn + Drop, G: LineGate + Drop>(
     alloc: Global,
     turn: T,
-    gate: G,
+    gate: FreeGate<G>,
 ) -> Result<(Task<T, G>, ClientEnd<T, G>), AllocError>
-    ensures { IfOk result (λ made. place_of T.connections G.shared made.1.begun ≡ place_at (T.connections turn) (G.shared gate)) }
+    ensures { IfOk result (λ made. place_of T.connections G.shared made.1.begun ≡ place_at (T.connections turn) gate) }
 {
+    let gate = gate.into_gate();
     let (end, taken) = client_ends(alloc, &turn, &gate)?;
     Ok((Task::new(FreeClient::new(turn, gate), end), taken))
 }
@@ -34,10 +35,10 @@ fn make_task<T: Turn + Drop, G: LineGate + Drop>(
 fn make_tasks<T: Turn + Drop, G: LineGate + Drop>(
     alloc: Global,
     turns: Vec<T>,
-    gates: Vec<G>,
+    gates: Vec<FreeGate<G>>,
 ) -> Result<(Vec<Task<T, G>>, Vec<ClientEnd<T, G>>), AllocError>
     ensures { IfOk result (λ made. map (λ end. place_of T.connections G.shared end.begun) made.1.items
-        ≡ places_of (map T.connections turns.items) (map G.shared gates.items)) }
+        ≡ places_of (map T.connections turns.items) gates.items) }
 {
     let mut tasks = Vec::with_capacity(alloc, gates.len())?;
     let mut ends = Vec::with_capacity(alloc, gates.len())?;
@@ -122,7 +123,7 @@ where
 ///   first too. All of them are prefixes of the list that the gate knows after the connection (`lists`).
 /// - A retained publication that the client was told is stored stands once in every later list (`stored`).
 /// - The exchanges of the session sent the client's retained publications, in their order, each at most once, and each that the client was
-///   told is stored (`publications`). If the gate expected nothing before, its line sent at most a tail beyond that (`tail_is`):
+///   told is stored (`publications`). Its line sent at most a tail beyond that (`tail_is`):
 ///   publications that the bytes hold behind the last packet that was handled, or that one, if it sent nothing and ended the session.
 /// - The replay sends what the filters were answered, in order, each message once (`sent`).
 ///
@@ -141,7 +142,7 @@ pub fn run_places<
     rt: H,
     alloc: Global,
     turns: Vec<T>,
-    gates: Vec<G>,
+    gates: Vec<FreeGate<G>>,
     runner: Runner<W>,
 ) -> Result<PlacesEnd<G::Name, G::End, T>, StoreFault>
 where
@@ -150,7 +151,7 @@ where
     T::Time: Send + 'static,
     G::Name: Send + Sync + 'static,
     G::End: Send + 'static,
-    ensures { IfOk result (λ end. AllZip (IsPlaceServed G.Name.limit) (places_of (map T.connections turns.items) (map G.shared gates.items))
+    ensures { IfOk result (λ end. AllZip (IsPlaceServed G.Name.limit) (places_of (map T.connections turns.items) gates.items)
         (map (λ end. left_at (T.connections end.turn) end.told (G.closed end.line)) end.ends.items)) }
 {
     let (tasks, comings) = make_tasks(alloc, turns, gates)?;

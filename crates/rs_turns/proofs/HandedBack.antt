@@ -15,9 +15,9 @@ pub place_stays : (limit number : ℕ) (before : SharedValue) (visit : Visit) �
 place_stays limit number before visit one =
     one.connection.handed_on.place ∙ (marks_through _ _ _ one.connection.marks one.connection.run).place
 
-pub has_ended : (limit place number : ℕ) (before : SharedValue) (visit : Visit) (ending : Ending) (told : List Entry) → IsConnectionServed limit number before visit
+pub has_ended : (limit place number : ℕ) (before : SharedValue) (visit : Visit) (ending : Ending) (told : List Entry) → before.pending ≡ [] → IsConnectionServed limit number before visit
     → place ≡ visit.gate.mark.place → ending ≡ visit.ending → told ≡ visit.gate.known → HasEnded limit place number ending told
-has_ended limit place number before visit ending told one place_is ending_is told_is =
+has_ended limit place number before visit ending told none one place_is ending_is told_is =
     let L : List Entry → Type 0 = λ list. IsLegal limit list in
     record {
       before = before;
@@ -27,5 +27,6 @@ has_ended limit place number before visit ending told one place_is ending_is tol
       served = one;
       knew = told_is;
       within = connection_within limit number told before visit (subst L (sym told_is) one.connection.last_legal) one ([], told_is ∙ sym (append-nil visit.gate.known));
-      publications = λ none. visits_send limit number before (visit ∷ []) visit.gate none (one, refl);
+      none_pending = none;
+      publications = visits_send limit number before (visit ∷ []) visit.gate none (one, refl);
     }

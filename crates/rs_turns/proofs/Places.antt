@@ -12,17 +12,17 @@ pub same_place : {T G : Type 0} (connections : T → Connections) (shared : G �
 same_place {T} {G} connections shared t u g h e f = ap (λ (t : T). place_at (connections t) (shared g)) e ∙ ap (λ (v : G). place_at (connections u) (shared v)) f
 
 -- the first turn that is left goes with the first gate that is left
-pub next_place : {T G : Type 0} (connections : T → Connections) (shared : G → SharedValue) (turns turns_left : List T) (gates gates_left : List G) (turn : T) (gate : G)
+pub next_place : {T : Type 0} (connections : T → Connections) (turns turns_left : List T) (gates gates_left : List SharedValue) (turn : T) (gate : SharedValue)
     → turns ≡ turn ∷ turns_left → gates ≡ gate ∷ gates_left
-    → places_of (map connections turns) (map shared gates) ≡ place_at (connections turn) (shared gate) ∷ places_of (map connections turns_left) (map shared gates_left)
-next_place {T} {G} connections shared turns turns_left gates gates_left turn gate t g =
-    ap (λ (l : List T). places_of (map connections l) (map shared gates)) t ∙ ap (λ (l : List G). places_of (connections turn ∷ map connections turns_left) (map shared l)) g
+    → places_of (map connections turns) gates ≡ place_at (connections turn) gate ∷ places_of (map connections turns_left) gates_left
+next_place {T} connections turns turns_left gates gates_left turn gate t g =
+    ap (λ (l : List T). places_of (map connections l) gates) t ∙ ap (λ (l : List SharedValue). places_of (connections turn ∷ map connections turns_left) l) g
 
 -- there is no turn or no gate for another place
-pub no_places : {T G : Type 0} (connections : T → Connections) (shared : G → SharedValue) (turns : List T) (gates : List G) → (length turns ≡ 0) ⊎ (length gates ≡ 0) → places_of (map connections turns) (map shared gates) ≡ []
-no_places connections shared [] gates none = refl
-no_places connections shared (turn ∷ turns) [] none = refl
-no_places connections shared (turn ∷ turns) (gate ∷ gates) none = ⊎_elim (λ t. absurd (omega (arith, t))) (λ t. absurd (omega (arith, t))) none
+pub no_places : {T : Type 0} (connections : T → Connections) (turns : List T) (gates : List SharedValue) → (length turns ≡ 0) ⊎ (length gates ≡ 0) → places_of (map connections turns) gates ≡ []
+no_places connections [] gates none = refl
+no_places connections (turn ∷ turns) [] none = refl
+no_places connections (turn ∷ turns) (gate ∷ gates) none = ⊎_elim (λ t. absurd (omega (arith, t))) (λ t. absurd (omega (arith, t))) none
 
 pub places_length : (turns : List Connections) (gates : List SharedValue) → length turns ≡ length gates → length (places_of turns gates) ≡ length gates
 places_length [] [] same = refl
@@ -36,9 +36,9 @@ places_few (connections ∷ turns) [] = omega (arith)
 places_few (connections ∷ turns) (gate ∷ gates) = let h = places_few turns gates in omega (arith, h)
 
 -- there are no more ends than gates
-pub few_ends : {G E Y : Type 0} (R : Place → Y → Type 0) (turns : List Connections) (shared : G → SharedValue) (gates : List G) (h : E → Y) (ends : List E)
-    → AllZip R (places_of turns (map shared gates)) (map h ends) → length ends ≤ length gates
-few_ends R turns shared gates h ends served =
-    let each = each_length R (places_of turns (map shared gates)) (map h ends) served in
-    let few = places_few turns (map shared gates) in
-    omega (arith, each, few, length-map ends h, length-map gates shared)
+pub few_ends : {E Y : Type 0} (R : Place → Y → Type 0) (turns : List Connections) (gates : List SharedValue) (h : E → Y) (ends : List E)
+    → AllZip R (places_of turns gates) (map h ends) → length ends ≤ length gates
+few_ends R turns gates h ends served =
+    let each = each_length R (places_of turns gates) (map h ends) served in
+    let few = places_few turns gates in
+    omega (arith, each, few, length-map ends h)

@@ -1,10 +1,18 @@
 -- The connections of a turn that were served so far.
-use Rattle.std.proofs.Common.{ℕ, Option, Some, None, List, [], ◌∷◌, ◌++◌, map, refl, sym, ap, subst, ◌∙◌, append_assoc}
+use Rattle.std.proofs.Common.{◌≡◌, ℕ, Option, Some, None, List, [], ◌∷◌, ◌++◌, map, refl, sym, ap, subst, ◌∙◌, append_assoc}
 use Rattle.std.proofs.lemmas.List.{append-nil, map-append}
 use Rattle.rs_turns.specs.Shared.{SharedValue}
-use Rattle.rs_turns.specs.Turns.{AreAll, Connections, Ending, Gave, GivesNext, Streams, TookBack}
-use Rattle.rs_turns.specs.Visits.{AreConnectionsServed, Place, ServedSoFar, ServesOne, Visit, next_number}
+use Rattle.rs_turns.specs.Turns.{AreAll, Connections, Ending, Gave, GivesNext, Streams, TakesBack, TookBack}
+use Rattle.rs_turns.specs.Visits.{AreConnectionsServed, IsConnectionServed, Place, ServedSoFar, Visit, next_number}
 use Rattle.rs_turns.proofs.Marks.{marks_through}
+
+-- one connection was served over these streams and given back, from the place before to the one after
+pub record ServesOne (limit number : ℕ) (before : Place) (given : Streams) (after : Place) : Type 0 where
+  pub visit : Visit
+  pub served : IsConnectionServed limit number before.gate visit
+  pub over : visit.given ≡ given
+  pub leaves : visit.gate ≡ after.gate
+  pub taken_back : TakesBack before.connections visit.ending after.connections
 
 gave_none : (waiting : Option (List Streams)) → Gave waiting [] waiting
 gave_none None = tt
@@ -31,14 +39,14 @@ took_more first None (Some us) xs ys p q = absurd q
 took_more None (Some vs) (Some us) xs ys p q = absurd p
 took_more (Some ws) (Some vs) (Some us) xs ys p q = q ∙ (ap (λ l. l ++ ys) p ∙ append_assoc ws xs ys)
 
-pub served_none : (limit : ℕ) (place : Place) → ServedSoFar limit place 1 place
-served_none limit place = record {
+pub served_none : (limit : ℕ) (place : Place) → place.gate.pending ≡ [] → ServedSoFar limit place 1 place
+served_none limit place none = record {
   visits = [];
   extends = λ more last h. h;
   given = gave_none place.connections.waiting;
   ended = took_none place.connections.ended;
   place = refl;
-  pending = λ none. none;
+  pending = none;
 }
 
 pub served_more : (limit number : ℕ) (first now after : Place) (connections : Connections) (given : Streams) → ServedSoFar limit first number now → GivesNext now.connections (Some given) connections
@@ -65,5 +73,5 @@ served_more limit number first now after connections given so_far next one =
       place =
           let moved = (marks_through _ _ _ one.served.connection.marks one.served.connection.run).place in
           ap (λ (g : SharedValue). g.mark.place) (sym one.leaves) ∙ (one.served.connection.handed_on.place ∙ (moved ∙ so_far.place));
-      pending = λ none. ap (λ (g : SharedValue). g.pending) (sym one.leaves) ∙ one.served.connection.none_pending;
+      pending = ap (λ (g : SharedValue). g.pending) (sym one.leaves) ∙ one.served.connection.none_pending;
     }

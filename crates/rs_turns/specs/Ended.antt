@@ -33,6 +33,6 @@ pub record HasEnded (limit place number : ℕ) (ending : Ending) (told : List En
   -- stored stands there once.
   pub knew : told ≡ visit.gate.known
   pub within : IsWithin told (start (assigned_of before.mark.place number) before.known before.mark) visit
-  -- what the gate sent meanwhile, if it expected nothing before, are the client's retained publications, in order, each at most once
-  pub publications : before.pending ≡ []
-      → (entries : List Entry) × Sends before.mark.sent entries visit.gate.mark.sent × ArePublications number before (visit ∷ []) entries
+  -- The gate expected nothing before. What it sent meanwhile are the client's retained publications, in order, each at most once
+  pub none_pending : before.pending ≡ []
+  pub publications : (entries : List Entry) × Sends before.mark.sent entries visit.gate.mark.sent × ArePublications number before (visit ∷ []) entries

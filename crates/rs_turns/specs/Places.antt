@@ -27,7 +27,7 @@ pub record IsPlaceServed (limit : ℕ) (place : Place) (left : Left) : Type 0 wh
   -- what is left is what the gate had then
   pub told : left.told ≡ last.known
   pub number : left.line.place ≡ place.gate.mark.place
-  pub sent : place.gate.pending ≡ [] → last.mark.sent ≡ Some left.line.sent
+  pub sent : last.mark.sent ≡ Some left.line.sent
   pub closed : IsClosed left.line.place left.line.ends left.line.gone
   -- the serials of what was sent strictly rise
   pub line : AreOfLine left.line.place left.line.sent

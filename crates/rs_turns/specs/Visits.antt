@@ -6,7 +6,7 @@ use Rattle.rs_server.specs.Clock.{TellsInOrder}
 use Rattle.rs_server.specs.Conversation.{Causes, Transfer, assigned_of, start}
 use Rattle.rs_turns.specs.Serving.{IsServedAt}
 use Rattle.rs_turns.specs.Shared.{SharedValue}
-use Rattle.rs_turns.specs.Turns.{Connections, Ending, Gave, Streams, TakesBack, TookBack}
+use Rattle.rs_turns.specs.Turns.{Connections, Ending, Gave, Streams, TookBack}
 
 -- the number of the connection after the one of this number. The greatest u64 is repeated
 abbrev pub next_number : ℕ → ℕ
@@ -54,21 +54,12 @@ pub record Place : Type 0 where
 abbrev pub place_at : Connections → SharedValue → Place
 place_at connections gate = record { connections = connections; gate = gate }
 
--- one connection was served over these streams and given back, from the place before to the one after
-pub record ServesOne (limit number : ℕ) (before : Place) (given : Streams) (after : Place) : Type 0 where
-  pub visit : Visit
-  pub served : IsConnectionServed limit number before.gate visit
-  pub over : visit.given ≡ given
-  pub leaves : visit.gate ≡ after.gate
-  pub taken_back : TakesBack before.connections visit.ending after.connections
-
 -- From the first place to the one now these connections were served, numbered from 1 on. Whatever is served from now on, from this
--- number on, was served after them. The turn gave them and took them back, the place stays, and if nothing was expected at first, nothing is
--- now.
+-- number on, was served after them. The turn gave them and took them back, the place stays, and nothing is expected.
 pub record ServedSoFar (limit : ℕ) (first : Place) (number : ℕ) (now : Place) : Type 0 where
   pub visits : List Visit
   pub extends : (more : List Visit) (last : SharedValue) → AreConnectionsServed limit number now.gate more last → AreConnectionsServed limit 1 first.gate (visits ++ more) last
   pub given : Gave first.connections.waiting (map (λ visit. visit.given) visits) now.connections.waiting
   pub ended : TookBack first.connections.ended (map (λ visit. visit.ending) visits) now.connections.ended
   pub place : now.gate.mark.place ≡ first.gate.mark.place
-  pub pending : first.gate.pending ≡ [] → now.gate.pending ≡ []
+  pub pending : now.gate.pending ≡ []

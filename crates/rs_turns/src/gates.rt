@@ -11,6 +11,7 @@ ghost use Rattle.rs_turns.specs.Shared.{HandsOn, Knows, operations_of};
 
 use rs_session::Gate;
 use rs_version::{StoreName, Told};
+use std::marker::Model;
 
 /// A gate to a store that other gates use too. It stands for the list that it knows, and for no other.
 pub trait StoreGate: Gate {
@@ -69,4 +70,39 @@ pub trait LineGate: StoreGate {
             × (operations_of tail ≡ (Self.shared self).pending) }
         ensures line { AreOfLine (closed result).place (closed result).sent }
         ensures end { IsClosed (closed result).place (closed result).ends (closed result).gone };
+}
+
+/// A gate that no connection uses. It is new, or was handed on, so it expects nothing.
+#[derive(Drop)]
+pub struct FreeGate<G: LineGate> {
+    gate: G,
+}
+
+impl<G: LineGate> Model for FreeGate<G> {
+    ghost use Rattle.std.specs.Prelude.{◌≡◌, []};
+    ghost use Rattle.rs_turns.specs.Shared.{SharedValue};
+
+    ghost Value = { SharedValue };
+
+    ghost view = { λ free. G.shared free.gate };
+
+    ghost invariant = { λ free. (G.shared free.gate).pending ≡ [] };
+}
+
+impl<G: LineGate> FreeGate<G> {
+    /// This gate, which expects nothing.
+    pub fn new(gate: G) -> FreeGate<G>
+        requires { (G.shared gate).pending ≡ [] }
+        ensures { result ≡ G.shared gate }
+    {
+        FreeGate { gate }
+    }
+
+    /// The gate.
+    pub fn into_gate(self) -> G
+        ensures gate { G.shared result ≡ self }
+        ensures pending { (G.shared result).pending ≡ [] }
+    {
+        self.gate
+    }
 }

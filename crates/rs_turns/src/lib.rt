@@ -11,5 +11,5 @@ mod turn;
 
 pub use ended::EndedConnection;
 pub use fault::StoreFault;
-pub use gates::{LineGate, StoreGate};
+pub use gates::{FreeGate, LineGate, StoreGate};
 pub use turn::{Connection, PlaceEnd, PlacesEnd, Turn};

@@ -1,33 +1,34 @@
 use denote.Exit.{no}
 use denote.Param.Send.{arg_send, param_send}
 use denote.Param.{copied, param}
-use Rattle.std.proofs.Common.{◌≡◌, ◌≤◌, ℕ, List, [], length, map, sym, ap, subst, ◌∙◌, arith}
+use Rattle.std.proofs.Common.{◌≡◌, ◌≤◌, ℕ, ◌-◌, ◌^◌, List, [], length, map, sym, ap, subst, ◌∙◌, arith}
 use Rattle.std.specs.Prelude.{MatchOption}
 use Rattle.rs_line.specs.Done.{IsWritten}
 use Rattle.rs_line.specs.Lines.{Line}
 use Rattle.rs_queue.specs.Ends.{Closed}
+use Rattle.rs_intake.specs.Causes.{IsCause}
 use Rattle.rs_intake.specs.Settling.{AreOfPlaces, EachOnce}
 use Rattle.rs_version.specs.Writer.{kept_of}
 use Rattle.rs_places.specs.Gates.{handed_on}
 use Rattle.rs_places.specs.Store.{IsSettled, IsUnsettled, new_gates}
 use Rattle.rs_turns.proofs.Places.{few_ends}
 use Rattle.rs_places.proofs.Sent.{gate_send}
-use Rattle.rs_places.proofs.Whole.{ends_once, map_same, store_run}
+use Rattle.rs_places.proofs.Whole.{ends_once, store_run}
 use Rattle.rs_places.proofs.store.run_named.Goals as goal
 
 pub settle_run-requires-clause-capacity : goal.settle_run-requires-clause-capacity
 settle_run-requires-clause-capacity g c =
     let ends = c.in_ok-served.served.ends.items in
     let gates = c.in_ok-gates.gates.items in
-    let all : length ends ≤ length gates = few_ends _ _ _ _ _ ends c.in_ok-served.ensures in
+    let all : length ends ≤ length gates = few_ends _ _ _ _ ends c.in_ok-served.ensures in
     (omega (arith, all, c.len.ensures, c.in_ok-lines.ensures.capacity), omega (arith, all, c.len-2.ensures, c.in_ok-left.ensures.capacity))
 
 pub settle_run-requires-clause-once : goal.settle_run-requires-clause-once
 settle_run-requires-clause-once g c =
     let ends = c.in_ok-served.served.ends.items in
     let gates = c.in_ok-gates.gates.items in
-    let new : map (λ gate. gate) gates ≡ new_gates c.args.queue.places =
-    map_same gates ∙ (c.in_ok-gates.ensures.same [] c.in_ok-writer.ensures.seats.1 ∙ ap (map (λ (line : Line). handed_on [] line)) c.in_ok-intake.ensures) in
+    let new : gates ≡ new_gates c.args.queue.places =
+    c.in_ok-gates.ensures.same [] c.in_ok-writer.ensures.seats.1 ∙ ap (map (λ (line : Line). handed_on [] line)) c.in_ok-intake.ensures in
     let P : ℕ → Type 0 = λ n. EachOnce n (map (λ end. end.line) ends) in
     subst P c.requires.queue.1 (ends_once c.args.turns.items ends g.T.Turn.connections (λ end. end.turn) (λ end. end.told) (λ end. end.line) g.N.StoreName.limit c.args.queue.places _ new
     (sym c.requires.turns) c.in_ok-served.ensures)
@@ -37,17 +38,18 @@ returns g c =
     let same = sym c.requires.queue.1 in
     let ends = c.in_ok-served.served.ends.items in
     let gates = c.in_ok-gates.gates.items in
-    let new : map (λ gate. gate) gates ≡ new_gates c.args.queue.places =
-    map_same gates ∙ (c.in_ok-gates.ensures.same [] c.in_ok-writer.ensures.seats.1 ∙ ap (map (λ (line : Line). handed_on [] line)) c.in_ok-intake.ensures) in
+    let new : gates ≡ new_gates c.args.queue.places =
+    c.in_ok-gates.ensures.same [] c.in_ok-writer.ensures.seats.1 ∙ ap (map (λ (line : Line). handed_on [] line)) c.in_ok-intake.ensures in
     let ended = c.join-ended.result in
     let entries = ended.received.entries in
     let lines : List Closed = map (λ end. end.line) ends in
     let written = subst (λ (n : ℕ). IsWritten g.N.StoreName.limit n entries (kept_of ended.writer) ended.ways.items) same c.join-ended.ensures.0 in
     let placed = subst (λ (n : ℕ). AreOfPlaces n entries) same c.join-ended.ensures.1 in
+    let cause = subst (λ (n : ℕ). IsCause n (2 ^ 64 - 1) ended.received ended.cause) same c.join-ended.ensures.2 in
     let so = subst (λ (n : ℕ). MatchOption c.settle_run.result.changes (IsUnsettled entries lines) (IsSettled n entries lines)) same c.settle_run.ensures.settled in
     store_run c.args.turns.items ends g.T.Turn.connections (λ end. end.turn) (λ end. end.told) (λ end. end.line) c.args.blank.limit g.N.StoreName.limit c.args.queue.places
-    c.settle_run.result.turns.items _ ended.writer entries ended.ways.items c.settle_run.result.version c.settle_run.result.changes c.requires.store.1 new (sym c.requires.turns)
-    c.in_ok-served.ensures written c.settle_run.ensures.legal c.settle_run.ensures.known c.settle_run.ensures.order so placed c.settle_run.ensures.version c.settle_run.ensures.turns
+    c.settle_run.result.turns.items _ ended.writer ended.received ended.cause ended.ways.items c.settle_run.result.version c.settle_run.result.changes c.requires.store.1 new (sym c.requires.turns)
+    c.in_ok-served.ensures written c.settle_run.ensures.legal c.settle_run.ensures.known c.settle_run.ensures.order so placed cause c.settle_run.ensures.version c.settle_run.ensures.turns
 
 pub run_places-served-requires-send-G : goal.run_places-served-requires-send-G
 run_places-served-requires-send-G g c κs within = param_send 1 _ (arg_send _ no _ (gate_send (param 0 g.row.N) (copied 2 g.row.H) g.N.LineName g.N.StoreName c.type_bounds.send-H))
