@@ -1,0 +1,52 @@
+use Rattle.std.proofs.Common.{◌≡◌, ◌++◌, ℕ, List, length, ap, subst, ◌∙◌, arith}
+use Rattle.std.specs.Int.{w32, to_be_bytes}
+use Rattle.rs_record.specs.Records.{record_form}
+use Rattle.sqlite_wal.proofs.StateLemmas.{AddsNothing-fewer, AddsNothing-trans}
+use Rattle.rs_pages.specs.Streams.{Holds, may_leave}
+use Rattle.rs_pages.proofs.StandsLemmas.{stands_if_rests, stands_of}
+use Rattle.rs_journal.specs.Frames.{frames}
+use Rattle.rs_journal.proofs.FrameLemmas.{frame_pushed}
+use Rattle.rs_journal.proofs.journal.Journal.push_frame.Goals as goal
+
+pub returns-in_err-put_record-clause-stands : goal.returns-in_err-put_record-clause-stands
+returns-in_err-put_record-clause-stands g c = λ standing seen holds. stands_of c.args.self.now.stream (frames standing) (frames seen) holds
+
+pub returns-then-len-clause-stands : goal.returns-then-len-clause-stands
+returns-then-len-clause-stands g c = λ standing seen holds. stands_of c.args.self.now.stream (frames standing) (frames seen) holds
+
+pub returns-in_err-push-clause-stands : goal.returns-in_err-push-clause-stands
+returns-in_err-push-clause-stands g c = λ standing seen holds. stands_if_rests _ (frames standing) (c.in_err-push.ensures.refused (frames standing) (frames seen) holds)
+
+pub returns-in_err-push-2-clause-stands : goal.returns-in_err-push-2-clause-stands
+returns-in_err-push-2-clause-stands g c = λ standing seen holds.
+    stands_if_rests _ (frames standing) (c.in_err-push-2.ensures.refused (frames standing) (frames seen ++ c.to_be_bytes.result) (c.in_ok-push.ensures.pushed (frames standing) (frames seen) holds))
+
+pub returns-clause-stands : goal.returns-clause-stands
+returns-clause-stands g c = λ standing seen holds.
+    stands_of _ (frames standing) _ (c.in_ok-push-2.ensures.pushed (frames standing) (frames seen ++ c.to_be_bytes.result) (c.in_ok-push.ensures.pushed (frames standing) (frames seen) holds))
+
+pub returns-clause-pushed : goal.returns-clause-pushed
+returns-clause-pushed g c = λ standing seen holds.
+    let bytes = c.deref.result.now in
+    let is : bytes ≡ record_form c.args.operation.now = c.deref.ensures.value ∙ c.in_ok-put_record.ensures.put ∙ ap (λ (l : List ℕ). l ++ record_form c.args.operation.now) c.clear.ensures.items in
+    let says : c.to_be_bytes.result ≡ to_be_bytes w32 (length bytes) = c.to_be_bytes.ensures ∙ ap (to_be_bytes w32) (omega arith) in
+    subst (λ (s : List ℕ). Holds c.push-2.new.self (frames standing) s) (frame_pushed seen c.args.operation.now c.to_be_bytes.result bytes is says)
+    (c.in_ok-push-2.ensures.pushed (frames standing) (frames seen ++ c.to_be_bytes.result) (c.in_ok-push.ensures.pushed (frames standing) (frames seen) holds))
+
+pub returns-in_err-put_record-clause-crash : goal.returns-in_err-put_record-clause-crash
+returns-in_err-put_record-clause-crash g c = AddsNothing-fewer 1024 (may_leave c.args.self.now.stream) (may_leave c.args.self.now.stream) (λ left may. may)
+
+pub returns-then-len-clause-crash : goal.returns-then-len-clause-crash
+returns-then-len-clause-crash g c = AddsNothing-fewer 1024 (may_leave c.args.self.now.stream) (may_leave c.args.self.now.stream) (λ left may. may)
+
+pub returns-in_err-push-clause-crash : goal.returns-in_err-push-clause-crash
+returns-in_err-push-clause-crash g c = c.push.ensures.crash
+
+pub returns-in_err-push-2-clause-crash : goal.returns-in_err-push-2-clause-crash
+returns-in_err-push-2-clause-crash g c = AddsNothing-trans 1024 (may_leave c.args.self.now.stream) (may_leave c.push.new.self) (may_leave c.push-2.new.self) c.push.ensures.crash c.push-2.ensures.crash
+
+pub returns-clause-crash : goal.returns-clause-crash
+returns-clause-crash g c = AddsNothing-trans 1024 (may_leave c.args.self.now.stream) (may_leave c.push.new.self) (may_leave c.push-2.new.self) c.push.ensures.crash c.push-2.ensures.crash
+
+pub returns-clause-open : goal.returns-clause-open
+returns-clause-open g c = c.in_ok-push.ensures.open

@@ -1,0 +1,4 @@
+pub mod Frames
+pub mod Journals
+pub mod Writing
+pub mod Law

@@ -1,0 +1,72 @@
+//! Operations out of the bytes of a stream.
+
+ghost use Rattle.std.specs.Prelude.{◌≡◌, ◌+◌, ◌≤◌, ◌++◌, List, length, take, drop, All, IfOk, IfSome, OnOk};
+ghost use Rattle.std.specs.Int.{w32, to_be_bytes};
+ghost use Rattle.rs_message.specs.declared.entry.Operation.{Operation as Read};
+ghost use Rattle.rs_record.specs.Records.{record_form, IsOperation};
+ghost use Rattle.rs_journal.specs.Frames.{frames};
+
+use crate::fault::ReadFault;
+use crate::sink::OperationSink;
+use bytes::Bytes;
+use rs_message::Operation;
+use rs_record::read_record;
+use std::alloc::{AllocError, Global};
+
+/// How many bytes behind the first four the record has that they announce, if all of it is there.
+fn record_len(bytes: &[u8]) -> Option<usize>
+    ensures within { IfSome result (λ n. 4 + n ≤ length bytes.now) }
+    ensures says { IfSome result (λ n. take 4 bytes.now ≡ to_be_bytes w32 n) }
+{
+    if bytes.len() < 4 {
+        return None;
+    }
+    let (front, rest) = bytes.split_at(4);
+    let len = u32::from_be_bytes([front[0], front[1], front[2], front[3]]) as usize;
+    if len > rest.len() {
+        return None;
+    }
+    Some(len)
+}
+
+/// The operation whose record these bytes are, and nothing else.
+fn read_whole(alloc: Global, bytes: &[u8]) -> Result<Operation, ReadFault>
+    ensures { IfOk result (λ operation. IsOperation operation × (bytes.now ≡ record_form operation)) }
+{
+    let mut rest = Bytes::copy_from_slice(alloc, bytes)?;
+    let operation = read_record(alloc, &mut rest)?;
+    if !rest.is_empty() {
+        return Err(ReadFault::Damaged);
+    }
+    Ok(operation)
+}
+
+/// Hands on the operations whose frames are all there, and tells how many bytes these have.
+pub(crate) fn read_frames<S: OperationSink>(
+    alloc: Global,
+    bytes: &[u8],
+    sink: &mut S,
+) -> Result<usize, ReadFault>
+    ensures within { IfOk result (λ n. n ≤ length bytes.now) }
+    ensures read { IfOk result (λ n. (operations : List Read) × (S.taken sink.new ≡ S.taken sink.old ++ operations) × All IsOperation operations × (take n bytes.now ≡ frames operations)) }
+{
+    let mut at = 0;
+    while let Some(len) = record_len(&bytes[at..]) {
+        let operation = read_whole(alloc, &bytes[at + 4..at + 4 + len])?;
+        sink.take(operation)?;
+        at += 4 + len;
+    }
+    Ok(at)
+}
+
+/// Takes so many bytes off the front.
+pub(crate) fn drop_front(bytes: &mut Vec<u8>, n: usize) -> Result<(), AllocError>
+    requires { n ≤ length bytes.old.items }
+    ensures { OnOk result (bytes.new.items ≡ drop n bytes.old.items) }
+{
+    if n > 0 {
+        let rest = Vec::from_slice(*bytes.allocator(), &bytes[n..])?;
+        *bytes = rest;
+    }
+    Ok(())
+}

@@ -1,0 +1,6 @@
+pub mod FormLemmas
+pub mod ListLemmas
+pub mod StreamLemmas
+pub mod StandsLemmas
+pub mod OpenLemmas
+pub mod CrashLemmas
