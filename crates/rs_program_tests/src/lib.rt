@@ -1,7 +1,11 @@
-//! Tests of command lines, and of what ends the program, by the public calls of `rs_program`. They stand in a crate of their own, so that
-//! it is not proved a second time with them.
+//! Tests of `pipe`, of the server, of command lines, and of what ends the program, by the public calls of `rs_pipe`, `rs_listener` and
+//! `rs_program`. They stand in a crate of their own, so that these are not proved a second time with them.
 #![tactic(auto)]
 
+#[cfg(test)]
+mod listening;
+#[cfg(test)]
+mod pipe;
 #[cfg(test)]
 mod statuses;
 #[cfg(test)]

@@ -155,7 +155,10 @@ fn play_named<
         return None;
     };
     let (intake, lines, queue) = queue.open::<N>().ok()?;
-    let mut gates = open_gates(rt, alloc, intake, seats, lines).ok()?;
+    let mut gates = Vec::new(alloc);
+    for gate in open_gates(rt, alloc, intake, seats, lines).ok()? {
+        gates.push(gate.into_gate()).ok()?;
+    }
     let mut ends = Vec::with_capacity(alloc, gates.len()).ok()?;
     let before = first_wrong(alloc, &mut gates, row.before);
     let writing = start_writer(rt, queue, writer)?;

@@ -1,6 +1,0 @@
-//! Tests of messages by their public calls. They stand in a crate of their own, so that `rs_message` is not proved a second time with
-//! them.
-#![tactic(auto)]
-
-#[cfg(test)]
-mod messages;

@@ -1,5 +1,0 @@
-//! Tests of packets by their public calls. They stand in a crate of their own, so that `rs_packet` is not proved a second time with them.
-#![tactic(auto)]
-
-#[cfg(test)]
-mod packets;

@@ -1,0 +1,7 @@
+//! Records of operations.
+
+mod draw;
+mod faults;
+mod laws;
+mod rows;
+mod samples;
