@@ -1,4 +1,4 @@
-//! Operations kept on disk, so that whatever a crash leaves is a beginning of what was written, with all that was committed.
+//! Operations kept on disk, so that whatever a crash leaves is a prefix of what was written, with all that was committed.
 #![tactic(auto)]
 
 mod fault;
