@@ -1,5 +1,5 @@
 -- Where as many jobs were taken as sent, the queue holds none.
-use Rattle.std.proofs.Common.{◌≡◌, ◌≢◌, ◌==◌, ℕ, zero, suc, ◌+◌, ◌<◌, ◌≤◌, inl, inr, ⊎_elim, Bool, true, false, cond, List, [], ◌∷◌, ◌++◌, length, filter, All, refl, sym, ap, subst, ◌∙◌, arith, length-append}
+use Rattle.std.proofs.Common.{◌≡◌, ◌≢◌, ◌==◌, ℕ, zero, suc, ◌+◌, ◌<◌, ◌≤◌, ◌⊎◌, inl, inr, ⊎_elim, Bool, true, false, cond, List, [], ◌∷◌, ◌++◌, length, filter, All, refl, sym, ap, subst, ◌∙◌, arith, length-append}
 use Rattle.std.proofs.lemmas.Bool.{cases_lt}
 use Rattle.std.proofs.lemmas.List.{append-nil, nil_from_length}
 use Rattle.std.specs.List.{AllByRecursion}
@@ -7,12 +7,21 @@ use Rattle.std.proofs.lemmas.Bool.Decides.{nat_tests}
 use Rattle.rs_message.specs.declared.entry.Entry.{Entry}
 use Rattle.rs_queue.specs.declared.job.Job.{Job}
 use Rattle.rs_queue.specs.declared.job.Job.TheVariants.{Put, End}
-use Rattle.rs_queue.specs.QueueRule.{of_place, entries_in, entries_of, IsOutside, IsPlaced}
+use Rattle.rs_queue.specs.QueueRule.{at_place, of_place, entries_in, entries_of, IsOutside, IsPlaced}
+use Rattle.rs_intake.specs.Causes.{HaveEnded}
 use Rattle.rs_queue.specs.Ends.{Closed}
 use Rattle.rs_queue.specs.declared.rule.SentFrom.{SentFrom}
 use Rattle.std.proofs.lemmas.List.Elements.{All-append, All-weaker, filter-append}
 use mathlib.Core.List.{IsPrefix}
 use Rattle.rs_intake.specs.Settling.{Covers, ends_at, EachOnce, sent_in_all, AreOfPlaces, AreTaken, AreTakenInOrder, BalancesWith}
+
+append_nil_right : {A : Type 0} (xs ys : List A) → xs ++ ys ≡ [] → ys ≡ []
+append_nil_right [] ys none = none
+append_nil_right (x ∷ xs) ys none = absurd (cc (none))
+
+zero_or_more : (n : ℕ) → (n ≡ 0) ⊎ (0 < n)
+zero_or_more zero = inl refl
+zero_or_more (suc n) = inr (omega arith)
 
 all_head : {A : Type 0} (P : A → Type 0) (x : A) (xs : List A) → All P (x ∷ xs) → P x
 all_head P x xs all = all 0 x (omega arith)
@@ -153,8 +162,30 @@ all_taken taken rest none (e ∷ es) all =
     (ap (of_place e.place) (sym (append-nil taken)) ∙ (ap (λ l. of_place e.place (taken ++ l)) (sym none) ∙ sym (all_head P e es all)))
     (all_taken taken rest none es (all_tail P e es all))
 
-pub settled : (places : ℕ) (taken : List Entry) (items : List Job) (ends : List Closed) → BalancesWith places taken items ends → EachOnce places ends → sent_in_all ends ≡ length taken → AreTaken taken ends
-settled places taken items ends b once count =
+-- nothing is left of a place, if the End of each was taken
+none_left : (places place : ℕ) (taken rest : List Entry) (ended : List ℕ) → HaveEnded places ended
+    → ((place : ℕ) → IsOutside places place → of_place place (taken ++ rest) ≡ []) → (at_place place ended ≡ []) ⊎ (of_place place rest ≡ [])
+    → of_place place taken ≡ of_place place (taken ++ rest)
+none_left places place taken rest ended all out nothing =
+    let parts : of_place place (taken ++ rest) ≡ of_place place taken ++ of_place place rest = filter-append (λ (z : Entry). z.origin.place == place) taken rest in
+    let by : of_place place rest ≡ [] → of_place place taken ≡ of_place place (taken ++ rest) =
+    λ none. sym (append-nil (of_place place taken)) ∙ (ap (λ l. of_place place taken ++ l) (sym none) ∙ sym parts) in
+    ⊎_elim
+    (λ (no_end : at_place place ended ≡ []).
+    let few : length (at_place place ended) ≡ 0 = ap length no_end in
+    ⊎_elim
+    (λ (none : place ≡ 0). let whole = sym parts ∙ out place (inl none) in by (append_nil_right _ _ whole))
+    (λ (some : 0 < place).
+    ⊎_elim
+    (λ (beyond : places < place). let whole = sym parts ∙ out place (inr beyond) in by (append_nil_right _ _ whole))
+    (λ (within : place ≤ places). absurd (let one = all place some within in omega (arith, one, few)))
+    (cases_lt places place))
+    (zero_or_more place))
+    (λ none. by none)
+    nothing
+
+pub settled : (places : ℕ) (taken : List Entry) (ended : List ℕ) (items : List Job) (ends : List Closed) → BalancesWith places taken ended items ends → EachOnce places ends → sent_in_all ends ≡ length taken → AreTaken taken ends
+settled places taken ended items ends b once count =
     let rest = entries_of items in
     let xs = taken ++ rest in
     let f : ℕ → ℕ = λ p. length (of_place p xs) in
@@ -166,10 +197,22 @@ settled places taken items ends b once count =
     let none : length rest ≡ 0 = omega (arith, all, each, less, sent, both, count) in
     all_taken taken rest (nil_from_length rest none) ends b.1
 
+-- if the End of each place was taken, all was
+pub taken_by_ends : (places : ℕ) (taken : List Entry) (ended : List ℕ) (ends : List Closed)
+    → (0 < length ends → (items : List Job) × BalancesWith places taken ended items ends) → HaveEnded places ended → AreTaken taken ends
+taken_by_ends places taken ended [] balance all = all_none (λ (e : Closed). of_place e.place taken ≡ e.sent)
+taken_by_ends places taken ended (end ∷ ends) balance all =
+    let (items, balanced) = balance (omega arith) in
+    let rest = entries_of items in
+    let none : (place : ℕ) → of_place place taken ≡ of_place place (taken ++ rest) = λ place. none_left places place taken rest ended all balanced.0 (balanced.2 place) in
+    let P : Closed → Type 0 = λ e. e.sent ≡ of_place e.place (taken ++ rest) in
+    let Q : Closed → Type 0 = λ e. of_place e.place taken ≡ e.sent in
+    All-weaker P Q (λ e sent. none e.place ∙ sym sent) (end ∷ ends) balanced.1
+
 -- what was taken of each place is a prefix of what its line sent
-pub in_order : (places : ℕ) (taken : List Entry) (ends : List Closed) → (0 < length ends → (items : List Job) × BalancesWith places taken items ends) → AreTakenInOrder taken ends
-in_order places taken [] balance = all_none (λ (e : Closed). IsPrefix (of_place e.place taken) e.sent)
-in_order places taken (end ∷ ends) balance =
+pub in_order : (places : ℕ) (taken : List Entry) (ended : List ℕ) (ends : List Closed) → (0 < length ends → (items : List Job) × BalancesWith places taken ended items ends) → AreTakenInOrder taken ends
+in_order places taken ended [] balance = all_none (λ (e : Closed). IsPrefix (of_place e.place taken) e.sent)
+in_order places taken ended (end ∷ ends) balance =
     let (items, balanced) = balance (omega arith) in
     let rest = entries_of items in
     let P : Closed → Type 0 = λ e. e.sent ≡ of_place e.place (taken ++ rest) in

@@ -4,7 +4,7 @@ use mathlib.Core.List.{IsPrefix}
 use Rattle.rs_message.specs.declared.entry.Entry.{Entry}
 use Rattle.rs_queue.specs.declared.rule.SentFrom.{SentFrom}
 use Rattle.rs_queue.specs.declared.job.Job.{Job}
-use Rattle.rs_queue.specs.QueueRule.{of_place, entries_of, IsOutside, SumsUp}
+use Rattle.rs_queue.specs.QueueRule.{of_place, entries_of, HoldsNothingOf, IsOutside, SumsUp}
 use Rattle.rs_line.specs.Lines.{Received}
 use Rattle.rs_queue.specs.Ends.{Closed}
 
@@ -38,12 +38,14 @@ abbrev pub IsBalanced : ℕ → Received → List Job → Type 0
 IsBalanced places r items =
     ((place : ℕ) → IsOutside places place → of_place place (r.entries ++ entries_of items) ≡ [])
     × SumsUp (λ place. of_place place (r.entries ++ entries_of items)) r.whole
+    × HoldsNothingOf r.ends items
 
 -- the same for these ends
-abbrev pub BalancesWith : ℕ → List Entry → List Job → List Closed → Type 0
-BalancesWith places taken items ends =
+abbrev pub BalancesWith : ℕ → List Entry → List ℕ → List Job → List Closed → Type 0
+BalancesWith places taken ended items ends =
     ((place : ℕ) → IsOutside places place → of_place place (taken ++ entries_of items) ≡ [])
     × All (λ e. e.sent ≡ of_place e.place (taken ++ entries_of items)) ends
+    × HoldsNothingOf ended items
 
 -- whatever the lists of the places are, those that are whole fix what these ends sent
 abbrev pub Covers : List SentFrom → List Closed → Type 0

@@ -2,6 +2,7 @@
 
 ghost use Rattle.std.specs.Prelude.{◌≡◌, ◌^◌, ◌<◌, ◌≤◌, List, true, MatchBool, MatchOption, IfOk, IfErr, length};
 ghost use Rattle.rs_queue.specs.declared.job.Job.{Job};
+ghost use Rattle.rs_intake.specs.Causes.{HaveEnded};
 ghost use Rattle.rs_intake.specs.Settling.{ends_at, EachOnce, sent_in_all, AreTaken, AreTakenInOrder, BalancesWith};
 
 use crate::fault::SettleFault;
@@ -75,7 +76,7 @@ fn all_sent<N: LineName>(ends: &Vec<LineEnd<N>>, places: u16, taken: u64) -> Opt
 /// Joins all lines' passes, and compares them with what was taken.
 fn join_all<N: LineName>(taken: &mut Taken<N>, ends: Vec<LineEnd<N>>)
     ensures same { (taken.new.entries ≡ taken.old.entries) × (taken.new.ends ≡ taken.old.ends) }
-    ensures balance { 0 < length ends.items → (items : List Job) × BalancesWith N.places taken.new.entries items ends.items }
+    ensures balance { 0 < length ends.items → (items : List Job) × BalancesWith N.places taken.new.entries taken.new.ends items ends.items }
 {
     for end in ends {
         let (sender, pass) = end.into_parts();
@@ -86,7 +87,7 @@ fn join_all<N: LineName>(taken: &mut Taken<N>, ends: Vec<LineEnd<N>>)
 
 /// Whether all that was sent was taken. If so, what was taken of each place is what was sent from there, in its order and each
 /// entry once, and the result is how many entries these are. If not, what was taken of each place that has an end is a prefix of what was
-/// sent from there.
+/// sent from there, and all of it if the End of each place was taken.
 ///
 /// It takes no memory. `ended` is lent mutably since its pass of the queue takes in those of the lines; nothing else of it changes.
 ///
@@ -102,6 +103,7 @@ pub fn settle<N: LineName, R: Wait + Drop>(
     ensures once { IfOk result (λ _. EachOnce N.places ends.items) }
     ensures settled { IfOk result (λ _. AreTaken ended.old.received.entries ends.items) }
     ensures order { AreTakenInOrder ended.old.received.entries ends.items }
+    ensures ended { HaveEnded N.places ended.old.received.ends → AreTaken ended.old.received.entries ends.items }
     ensures unsettled { IfErr result (λ _. ¬ (EachOnce N.places ends.items × (sent_in_all ends.items ≡ ended.old.taken))) }
     ensures same { (ended.new.writer ≡ ended.old.writer) × (ended.new.taken ≡ ended.old.taken) × (ended.new.refused ≡ ended.old.refused)
         × (ended.new.held ≡ ended.old.held) × (ended.new.cause ≡ ended.old.cause) × (ended.new.ways ≡ ended.old.ways)

@@ -2,6 +2,7 @@
 
 ghost use Rattle.std.specs.Prelude.{◌≡◌, ◌+◌, ◌<◌, ◌≤◌, ℕ, List, IfOk};
 ghost use Rattle.rs_message.specs.declared.entry.TheConstants.{MAX_LINES};
+ghost use Rattle.rs_intake.specs.declared.cause.Cause.{Cause};
 ghost use Rattle.rs_places.specs.Store.{IsStoreRun};
 ghost use Rattle.rs_turns.specs.Turns.{Connections};
 
@@ -117,8 +118,8 @@ impl Server {
         self,
         rt: H,
     ) -> Result<Summary, ListenFault>
-        ensures run { IfOk result (λ summary. (before : List Connections) × (after : List Connections) × (version : ℕ)
-            × IsStoreRun self.blank.limit summary.clients before after version summary.changes) }
+        ensures run { IfOk result (λ summary. (before : List Connections) × (after : List Connections) × (version : ℕ) × (cause : Cause)
+            × IsStoreRun self.blank.limit summary.clients before after version summary.changes cause) }
         ensures alone { IfOk result (λ summary. self.clients ≤ self.places → summary.clients ≡ self.places) }
         ensures more { IfOk result (λ summary. self.places < self.clients
             → (self.places < summary.clients) × (summary.clients ≤ self.clients)) }

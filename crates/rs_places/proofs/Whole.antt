@@ -13,9 +13,10 @@ use Rattle.rs_queue.specs.Ends.{Closed}
 use Rattle.rs_queue.specs.Parts.{IsPart}
 use Rattle.rs_queue.specs.QueueRule.{of_place}
 use Rattle.rs_line.specs.Done.{IsWritten, Outcome, Told, is_refused, not_refused}
-use Rattle.rs_intake.specs.Causes.{IsCause}
-use Rattle.rs_intake.specs.Settling.{AreOfPlaces, AreTakenInOrder, EachOnce}
+use Rattle.rs_intake.specs.Causes.{HaveEnded, IsCause}
+use Rattle.rs_intake.specs.Settling.{AreOfPlaces, AreTaken, AreTakenInOrder, EachOnce}
 use Rattle.rs_intake.specs.declared.cause.Cause.{Cause}
+use Rattle.rs_intake.specs.declared.cause.Cause.TheVariants.{AllEnded, MostTaken, QueueGone}
 use Rattle.rs_line.specs.Sweeps.{without_sweeps}
 use Rattle.rs_session.specs.Gate.{Extends, Sends}
 use Rattle.rs_turns.specs.Visits.{Place}
@@ -23,7 +24,7 @@ use Rattle.rs_turns.specs.Places.{IsPlaceServed, Left, left_at, places_of}
 use Rattle.rs_turns.specs.Shared.{SharedValue}
 use Rattle.rs_places.specs.Gates.{handed_on}
 use Rattle.rs_turns.specs.Within.{ArePublications}
-use Rattle.rs_places.specs.Store.{IsLineOf, IsPlaceOf, IsSettled, IsStoreRun, IsUnsettled, IsWriterRun, gates_of, new_gates}
+use Rattle.rs_places.specs.Store.{IsEndOfRun, IsLineOf, IsPlaceOf, IsSettled, IsStoreRun, IsUnsettled, IsWriterRun, gates_of, new_gates}
 use Rattle.rs_turns.specs.Turns.{Connections}
 use Rattle.rs_places.proofs.EachOnce.{each_once}
 use Rattle.rs_turns.proofs.Each.{each_length, each_with}
@@ -80,26 +81,29 @@ place_sends limit place left fresh none served =
 
 -- ---- the writer, the lines and the places
 
-abbrev writer_run : (limit places version : ℕ) (w : Written) (received : Received) (cause : Cause) (ways : List Told) → IsWritten limit places received.entries (kept_of w) ways → IsLegal limit (kept_of w) → AreOfPlaces places received.entries
-    → IsCause places (2 ^ 64 - 1) received cause → version ≡ length w.published → IsWriterRun limit places version
-writer_run limit places version w received cause ways written legal placed ended version_is = record {
+abbrev writer_run : (limit places version : ℕ) (w : Written) (entries : List Entry) (ways : List Told) → IsWritten limit places entries (kept_of w) ways → IsLegal limit (kept_of w) → AreOfPlaces places entries → version ≡ length w.published
+    → IsWriterRun limit places version
+writer_run limit places version w entries ways written legal placed version_is = record {
   history = kept_of w;
   legal = legal;
   published = w.published;
   held = w.held;
   whole = refl;
   entries = version_is;
-  taken = received.entries;
+  taken = entries;
   outcomes = written.outcomes;
   done = written.done;
   not_refused_are = written.changes;
   placed = placed;
   not_refused_of = λ place. ap (of_place place) written.changes;
-  received = received;
-  received_are = refl;
-  cause = cause;
-  ended = ended;
 }
+
+-- why the writer ended
+end_of_run : (places : ℕ) (received : Received) (cause : Cause) (lines : List Closed) → IsCause places (2 ^ 64 - 1) received cause
+    → (HaveEnded places received.ends → AreTaken received.entries lines) → IsEndOfRun received.entries lines cause
+end_of_run places received AllEnded lines is taken = taken is
+end_of_run places received MostTaken lines is taken = is
+end_of_run places received (QueueGone gone) lines is taken = is
 
 pub line_of : (history entries : List Entry) (line : Closed) → IsPart (without_sweeps history) entries → Extends line.sent (of_place line.place entries) → IsLineOf history entries line
 line_of history entries line kept taken =
@@ -239,9 +243,9 @@ pub store_run : {T E : Type 0} (turns : List T) (ends : List E) (connections : T
     → AllZip (IsPlaceServed limit) (places_of (map connections turns) gates) (map (λ e. left_at (connections (turn e)) (told e) (line e)) ends)
     → IsWritten limit places received.entries (kept_of w) ways → IsLegal limit (kept_of w) → All (λ e. IsPrefix (told e) (kept_of w)) ends
     → AreTakenInOrder received.entries (map line ends) → MatchOption changes (IsUnsettled received.entries (map line ends)) (IsSettled places received.entries (map line ends))
-    → AreOfPlaces places received.entries → IsCause places (2 ^ 64 - 1) received cause → version ≡ length w.published → turns_left ≡ map turn ends
-    → IsStoreRun own places (map connections turns) (map connections turns_left) version changes
-store_run {T} {E} turns ends connections turn told line own limit places turns_left gates w received cause ways version changes same new turns_count served written legal known taken settled placed ended version_is left_is =
+    → AreOfPlaces places received.entries → IsCause places (2 ^ 64 - 1) received cause → (HaveEnded places received.ends → AreTaken received.entries (map line ends)) → version ≡ length w.published → turns_left ≡ map turn ends
+    → IsStoreRun own places (map connections turns) (map connections turns_left) version changes cause
+store_run {T} {E} turns ends connections turn told line own limit places turns_left gates w received cause ways version changes same new turns_count served written legal known taken settled placed ended all_ended version_is left_is =
     let history = kept_of w in
     let entries = received.entries in
     let kept = written_part limit places entries history ways written in
@@ -260,13 +264,15 @@ store_run {T} {E} turns ends connections turn told line own limit places turns_l
     let all = places_length before gates (length-map turns connections ∙ (turns_count ∙ sym gates_count)) in
     let each = each_length (IsPlaceServed limit) (places_of before gates) left served in
     let S : List Closed → Type 0 = λ l. MatchOption changes (IsUnsettled entries l) (IsSettled places entries l) in
-    let R : ℕ → Type 0 = λ l. IsStoreRun l places before (map connections turns_left) version changes in
+    let T : List Closed → Type 0 = λ l. IsEndOfRun entries l cause in
+    let R : ℕ → Type 0 = λ l. IsStoreRun l places before (map connections turns_left) version changes cause in
     subst R (sym same) (record {
-      writer = writer_run limit places version w received cause ways written legal placed ended version_is;
+      writer = writer_run limit places version w entries ways written legal placed version_is;
       left = left;
       each = each_with (IsPlaceServed limit) (IsPlaceOf limit history entries) IsFresh (IsKnown history entries) (λ place end one fresh k. place_of limit history entries place end legal kept one fresh k)
           (places_of before (new_gates places)) left (subst P new served) (places_fresh before (new_lines places) (lines_fresh places)) both;
       count = omega (arith, each, all, gates_count);
       turns = after;
+      ended = subst T lines_left (end_of_run places received cause (map line ends) ended all_ended);
       settled = subst S lines_left settled;
     })

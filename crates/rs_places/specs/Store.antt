@@ -1,16 +1,17 @@
 -- A whole run of a store: its clients, each with a line of its own, whose number is its place, and the one history that they all saw.
-use Rattle.std.specs.Prelude.{◌≡◌, ℕ, ◌-◌, ◌^◌, List, [], ◌∷◌, ◌++◌, length, map, Option, MatchOption}
+use Rattle.std.specs.Prelude.{◌≡◌, ℕ, ◌+◌, ◌-◌, ◌^◌, ◌≤◌, ◌⊎◌, List, [], ◌∷◌, ◌++◌, length, map, Option, MatchOption}
 use Rattle.std.specs.List.{AllZip}
 use Rattle.rs_message.specs.declared.entry.Entry.{Entry}
 use Rattle.rs_store.specs.History.{IsLegal}
 use Rattle.rs_version.specs.Copies.{listed}
 use Rattle.rs_line.specs.Done.{AreDone, Outcome, not_refused}
-use Rattle.rs_line.specs.Lines.{Line, Received, new_lines}
-use Rattle.rs_intake.specs.Causes.{IsCause}
+use Rattle.rs_line.specs.Lines.{Line, new_lines}
 use Rattle.rs_intake.specs.declared.cause.Cause.{Cause}
+use Rattle.rs_intake.specs.declared.cause.Cause.TheVariants.{AllEnded, MostTaken, QueueGone}
 use Rattle.rs_intake.specs.Settling.{AreOfPlaces, AreTaken, EachOnce, sent_in_all}
 use Rattle.rs_line.specs.Sweeps.{without_sweeps}
 use Rattle.rs_queue.specs.Ends.{Closed}
+use Rattle.rs_queue.specs.declared.job.TheConstants.{MAX_CHANGES}
 use Rattle.rs_queue.specs.Parts.{IsPart}
 use Rattle.rs_queue.specs.QueueRule.{of_place}
 use Rattle.rs_session.specs.Gate.{Extends}
@@ -65,6 +66,13 @@ pub record IsSettled (places : ℕ) (entries : List Entry) (lines : List Closed)
 abbrev pub IsUnsettled : List Entry → List Closed → Type 0
 IsUnsettled entries lines = ¬ (sent_in_all lines ≡ length entries)
 
+-- Why the writer ended that took these entries of what these lines sent: it took the End of each line, and so all that they sent; or as many
+-- as it can count, or fewer than one job more; or a receive failed, of which no more is known
+abbrev pub IsEndOfRun : List Entry → List Closed → Cause → Type 0
+IsEndOfRun taken lines AllEnded = AreTaken taken lines
+IsEndOfRun taken lines MostTaken = (2 ^ 64 - 1 ≤ length taken) ⊎ (2 ^ 64 ≤ length taken + MAX_CHANGES)
+IsEndOfRun taken lines (QueueGone gone) = Unit {0}
+
 -- The writer of a run over so many places published so many entries.
 pub record IsWriterRun (limit places version : ℕ) : Type 0 where
   -- There is one legal history, the list that the writer keeps. So many entries of it were published, from the first on: all, or all but
@@ -85,16 +93,11 @@ pub record IsWriterRun (limit places version : ℕ) : Type 0 where
   pub placed : AreOfPlaces places taken
   -- so of each place it has what was taken of the place less what was refused
   pub not_refused_of : (place : ℕ) → of_place place (without_sweeps history) ≡ of_place place (not_refused taken outcomes)
-  -- It ended for this cause: it took an End of each place, or as many entries as it can count, or a receive failed
-  pub received : Received
-  pub received_are : received.entries ≡ taken
-  pub cause : Cause
-  pub ended : IsCause places (2 ^ 64 - 1) received cause
 
 -- A store of so many new places was run, each of them a client's line. Each place served its turn, from that before to that after; the
--- writer published so many entries; and so many changes are settled, or it is known that not all were taken. Nothing is said of seats and of
+-- writer published so many entries, and ended for this cause; and so many changes are settled, or it is known that not all were taken. Nothing is said of seats and of
 -- threads, of which there may be fewer.
-pub record IsStoreRun (limit places : ℕ) (before after : List Connections) (version : ℕ) (changes : Option ℕ) : Type 0 where
+pub record IsStoreRun (limit places : ℕ) (before after : List Connections) (version : ℕ) (changes : Option ℕ) (cause : Cause) : Type 0 where
   -- the history, and what the writer took and published
   pub writer : IsWriterRun limit places version
   pub open writer use *
@@ -103,5 +106,6 @@ pub record IsStoreRun (limit places : ℕ) (before after : List Connections) (ve
   pub each : AllZip (IsPlaceOf limit history taken) (places_of before (new_gates places)) left
   pub count : length left ≡ places
   pub turns : after ≡ map (λ end. end.connections) left
+  pub ended : IsEndOfRun taken (map (λ end. end.line) left) cause
   -- all that the places sent was taken, once; no number is given only if another number was sent than taken
   pub settled : MatchOption changes (IsUnsettled taken (map (λ end. end.line) left)) (IsSettled places taken (map (λ end. end.line) left))

@@ -3,7 +3,8 @@
 ghost use Rattle.std.specs.Prelude.{◌≡◌, ◌≤◌, All, MatchOption, [], length, map, vec_capacity};
 ghost use mathlib.Core.List.{IsPrefix};
 ghost use Rattle.rs_store.specs.History.{IsLegal};
-ghost use Rattle.rs_intake.specs.Settling.{AreTakenInOrder, EachOnce};
+ghost use Rattle.rs_intake.specs.Causes.{HaveEnded};
+ghost use Rattle.rs_intake.specs.Settling.{AreTaken, AreTakenInOrder, EachOnce};
 ghost use Rattle.rs_places.specs.Store.{IsSettled, IsUnsettled};
 ghost use Rattle.rs_version.specs.Writer.{kept_of};
 
@@ -74,6 +75,8 @@ pub(crate) fn settle_run<N: LineName, T: Drop, R: Wait + Drop>(
     ensures legal { IsLegal N.limit (kept_of ended.writer) }
     ensures known { All (λ end. IsPrefix end.told (kept_of ended.writer)) ends.items }
     ensures order { AreTakenInOrder ended.received.entries (map (λ end. end.line) ends.items) }
+    ensures ended { HaveEnded N.places ended.received.ends → AreTaken ended.received.entries (map (λ end. end.line) ends.items) }
+    ensures cause { result.cause ≡ ended.cause }
     ensures settled { MatchOption result.changes (IsUnsettled ended.received.entries (map (λ end. end.line) ends.items))
         (IsSettled N.places ended.received.entries (map (λ end. end.line) ends.items)) }
 {
@@ -90,5 +93,6 @@ pub(crate) fn settle_run<N: LineName, T: Drop, R: Wait + Drop>(
         threads,
         version,
         changes,
+        cause: ended.cause,
     }
 }

@@ -10,7 +10,7 @@ ghost use Rattle.rs_version.specs.Writer.{kept_of};
 use crate::seats::Seats;
 use crate::settling::settle_run;
 use crate::shared_gate::SharedGate;
-use rs_intake::{BlankQueue, Ended, Queue, run_writer};
+use rs_intake::{BlankQueue, Cause, Ended, Queue, run_writer};
 use rs_line::{Intake, LineName, SeatLine};
 use rs_pool::{Runner, Watch};
 use rs_steps::run_places;
@@ -32,6 +32,8 @@ pub struct StoreEnd<T> {
     pub version: u64,
     /// How many changes the clients sent to the writer, refused ones too. None if not all are known to be taken.
     pub changes: Option<u64>,
+    /// Why the writer ended.
+    pub cause: Cause,
 }
 
 /// A gate for each line and its seat.
@@ -146,7 +148,7 @@ fn start_writer<
 /// entries that the writer took, all from these places, and published, but for its last entry, if that is held; all lists that any
 /// connection of any client was answered from are prefixes of it; each retained publication that any client was told is stored stands in it
 /// once; each client served all connections of its turn, over their own bytes and at their own times; what a client sent are their retained
-/// publications, in order; and if the changes are given, all of it was taken, once. It says the same whoever serves the clients, and however
+/// publications, in order; if the writer took the End of each line, all of it was taken; and if the changes are given, it was, once. It says the same whoever serves the clients, and however
 /// many seats there are.
 ///
 /// # Errors
@@ -170,7 +172,7 @@ where
     T::Time: Send + 'static,
     requires { queue.places ≡ length turns.items }
     ensures { IfOk result (λ end. IsStoreRun blank.limit queue.places (map T.connections turns.items)
-        (map T.connections end.turns.items) end.version end.changes) }
+        (map T.connections end.turns.items) end.version end.changes end.cause) }
 {
     run_named::<Brand, T, H, W>(rt, alloc, blank, queue, turns, runner)
 }
@@ -196,7 +198,7 @@ where
     requires queue { (queue.name ≡ N.queue) × (queue.places ≡ N.places) }
     requires turns { queue.places ≡ length turns.items }
     ensures { IfOk result (λ end. IsStoreRun blank.limit queue.places (map T.connections turns.items)
-        (map T.connections end.turns.items) end.version end.changes) }
+        (map T.connections end.turns.items) end.version end.changes end.cause) }
 {
     let (writer, seats) = blank.open::<N, H>(rt)?;
     let (intake, lines, queue) = queue.open::<N>()?;

@@ -12,6 +12,7 @@ use Rattle.rs_turns.specs.Visits.{AreConnectionsServed, Place, Visit, next_numbe
 use Rattle.rs_turns.specs.Places.{Left, places_of}
 use Rattle.rs_turns.specs.Shared.{SharedValue}
 use Rattle.rs_turns.specs.Within.{AreWithin}
+use Rattle.rs_intake.specs.declared.cause.Cause.{Cause}
 use Rattle.rs_places.specs.Store.{IsPlaceOf, IsStoreRun, new_gates}
 use Rattle.rs_turns.specs.Turns.{AreAll, Connections, Ending, Streams, TookBack}
 use Rattle.rs_places_tests.specs.Answered.{AreAnswered, ArePlacesAnswered, EachAnswered, IsPlaceAnswered}
@@ -72,8 +73,8 @@ places_answered limit history entries (connections ∷ turns) (gate ∷ gates) [
 places_answered limit history entries (connections ∷ turns) (gate ∷ gates) (end ∷ left) same known each =
     (place_answered limit history entries (record { connections = connections; gate = gate }) end known.0 each.0, places_answered limit history entries turns gates left (omega (arith, same)) known.1 each.1)
 
-pub run_answered : (limit places : ℕ) (before after : List Connections) (version : ℕ) (changes : Option ℕ) → length before ≡ places → AllByRecursion (λ connections. is_some connections.waiting ≡ true) before → IsStoreRun limit places before after version changes → AreAnswered limit before after version
-run_answered limit places before after version changes count known run =
+pub run_answered : (limit places : ℕ) (before after : List Connections) (version : ℕ) (changes : Option ℕ) (cause : Cause) → length before ≡ places → AllByRecursion (λ connections. is_some connections.waiting ≡ true) before → IsStoreRun limit places before after version changes cause → AreAnswered limit before after version
+run_answered limit places before after version changes cause count known run =
     let P : List Connections → Type 0 = λ l. ArePlacesAnswered run.history before l in
     record {
       history = run.history;

@@ -19,7 +19,7 @@ use Rattle.rs_queue.specs.declared.job.Job.{Job}
 use Rattle.rs_queue.specs.declared.job.Job.TheVariants.{Put, End}
 use Rattle.rs_queue.proofs.Parts.{all_append, part_front, part_rises, rises_none}
 use Rattle.rs_queue.specs.Changes.{AreOf, AreOfLine}
-use Rattle.rs_queue.specs.QueueRule.{AreAbove, AreEnds, AreLast, AreWhole, Balances, Closes, ClosesLine, ClosesTaker, Delivers, FitsLine, FitsTaker, IsAbove, IsOf, IsOutside, IsPlaced, Keeps, Sends, SumsUp, Takes, at_place, end_of, ends_of, entries_in, entries_of, job_more, new_line, of_place, one_line_less, one_line_more, spent, taker}
+use Rattle.rs_queue.specs.QueueRule.{AreAbove, AreEnds, AreLast, AreWhole, Balances, Closes, ClosesLine, ClosesTaker, Delivers, FitsLine, FitsTaker, HoldsNothingOf, IsAbove, IsOf, IsOutside, IsPlaced, Keeps, Sends, SumsUp, Takes, at_place, end_of, ends_of, entries_in, entries_of, job_more, new_line, of_place, one_line_less, one_line_more, spent, taker}
 
 pub clash : {b : Bool} → b ≡ false → b ≡ true → ⊥
 clash p q = cc (p, q)
@@ -312,7 +312,13 @@ sums_up : (line : ℕ → Option ℕ) (sent all : ℕ → List Entry) → ((plac
 sums_up line sent all is [] w = tt
 sums_up line sent all is (k ∷ ks) w = (w.1 ∙ sym (is k.place), sums_up line sent all is ks w.2)
 
-learns_delivers : (pass : ℕ) (v : PassView) → v.takes ≡ true → Learns Delivers pass v (Balances v)
+-- what is taken and what the queue holds make up what the lines sent
+abbrev AddsUp : PassView → List Job → Type 0
+AddsUp v items =
+    ((place : ℕ) → IsOutside v.made place → of_place place (v.entries ++ entries_of items) ≡ [])
+    × SumsUp (λ place. of_place place (v.entries ++ entries_of items)) v.known
+
+learns_delivers : (pass : ℕ) (v : PassView) → v.takes ≡ true → Learns Delivers pass v (AddsUp v)
 learns_delivers pass v gets items views h at =
     let mine = (h.5 pass v at).1 gets in
     let all : (place : ℕ) → of_place place (v.entries ++ entries_of items) ≡ h.2 place = λ place. ap (λ l. of_place place (l ++ entries_of items)) mine.1 ∙ h.4 place in (
@@ -630,7 +636,11 @@ merges pass v other w gets quiet sends items views h at apart at' =
     )
 
 pub learns : (pass : ℕ) (v : PassView) → v.takes ≡ true → Learns Keeps pass v (Balances v)
-learns pass v gets items views h at = learns_delivers pass v gets items views h.0 at
+learns pass v gets items views h at =
+    let adds = learns_delivers pass v gets items views h.0 at in
+    let E : List ℕ → Type 0 = λ ended. HoldsNothingOf ended items in
+    let ended : v.ends ≡ h.1.0 = ((h.1.2 pass v at).1 gets).0 in
+    (adds.0, adds.1, subst E (sym ended) h.1.4)
 
 pub starts : Keeps [] (taker ∷ [])
 starts = (

@@ -126,6 +126,10 @@ ClosesLine ends v = v.sends ≡ true → v.ends ≡ at_place v.from ends
 abbrev pub ClosesTaker : List ℕ → List ℕ → PassView → Type 0
 ClosesTaker ended ends v = v.takes ≡ true → (v.ends ≡ ended) × ((place : ℕ) → IsOutside v.made place → at_place place ends ≡ [])
 
+-- of a place whose End was taken the queue holds nothing
+abbrev pub HoldsNothingOf : List ℕ → List Job → Type 0
+HoldsNothingOf ended items = (place : ℕ) → (at_place place ended ≡ []) ⊎ (of_place place (entries_of items) ≡ [])
+
 -- each line sends one End at most, and nothing behind it: neither in the queue, nor behind an End that was taken
 abbrev pub Closes : List Job → List PassView → Type 0
 Closes items views =
@@ -134,7 +138,7 @@ Closes items views =
     × ((pass : ℕ) (v : PassView) → get_elem? views pass ≡ some v → ClosesLine (ended ++ ends_of items) v
     × ClosesTaker ended (ended ++ ends_of items) v)
     × AreLast items
-    × ((place : ℕ) → (at_place place ended ≡ []) ⊎ (of_place place (entries_of items) ≡ []))
+    × HoldsNothingOf ended items
 
 -- the whole rule
 abbrev pub Keeps : List Job → List PassView → Type 0
@@ -180,3 +184,4 @@ abbrev pub Balances : PassView → List Job → Type 0
 Balances v items =
     ((place : ℕ) → IsOutside v.made place → of_place place (v.entries ++ entries_of items) ≡ [])
     × SumsUp (λ place. of_place place (v.entries ++ entries_of items)) v.known
+    × HoldsNothingOf v.ends items

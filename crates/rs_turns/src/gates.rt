@@ -72,7 +72,7 @@ pub trait LineGate: StoreGate {
         ensures end { IsClosed (closed result).place (closed result).ends (closed result).gone };
 }
 
-/// A gate that no connection uses. It is new, or was handed on, so it expects nothing.
+/// A gate that expects nothing, as one that no connection uses: a new one, or one that was handed on.
 #[derive(Drop)]
 pub struct FreeGate<G: LineGate> {
     gate: G,

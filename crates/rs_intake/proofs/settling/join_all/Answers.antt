@@ -30,4 +30,4 @@ returns-clause-balance g c =
     (λ some.
     let b = i.2 (let P : List Closed → Type 0 = λ l. 0 < length l in subst P (sym all) some) in
     let C : List Closed → Type 0 = λ l. Covers c.loop-end.taken.whole l in
-    (b.0, (b.1.0, subst C all i.1 _ b.1.1)))
+    (b.0, (b.1.0, subst C all i.1 _ b.1.1, b.1.2)))

@@ -29,3 +29,8 @@ returns-clause-settled g c =
           let unsettled = rw w.in-Err.is at c.settle.ensures.unsettled in
           rw w.changes-is (λ same. unsettled (once, ap sent_in_all lines ∙ (same ∙ sym c.args.ended.counted)))
     ]
+
+pub returns-clause-ended : goal.returns-clause-ended
+returns-clause-ended g c = λ all.
+    let P : List Closed → Type 0 = λ l. AreTaken c.args.ended.received.entries l in
+    subst P c.part_ends-lines.ensures.lines (c.settle.ensures.ended all)

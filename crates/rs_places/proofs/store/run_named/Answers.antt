@@ -6,8 +6,9 @@ use Rattle.std.specs.Prelude.{MatchOption}
 use Rattle.rs_line.specs.Done.{IsWritten}
 use Rattle.rs_line.specs.Lines.{Line}
 use Rattle.rs_queue.specs.Ends.{Closed}
-use Rattle.rs_intake.specs.Causes.{IsCause}
-use Rattle.rs_intake.specs.Settling.{AreOfPlaces, EachOnce}
+use Rattle.rs_intake.specs.Causes.{HaveEnded, IsCause}
+use Rattle.rs_intake.specs.declared.cause.Cause.{Cause}
+use Rattle.rs_intake.specs.Settling.{AreOfPlaces, AreTaken, EachOnce}
 use Rattle.rs_version.specs.Writer.{kept_of}
 use Rattle.rs_places.specs.Gates.{handed_on}
 use Rattle.rs_places.specs.Store.{IsSettled, IsUnsettled, new_gates}
@@ -45,11 +46,13 @@ returns g c =
     let lines : List Closed = map (λ end. end.line) ends in
     let written = subst (λ (n : ℕ). IsWritten g.N.StoreName.limit n entries (kept_of ended.writer) ended.ways.items) same c.join-ended.ensures.0 in
     let placed = subst (λ (n : ℕ). AreOfPlaces n entries) same c.join-ended.ensures.1 in
-    let cause = subst (λ (n : ℕ). IsCause n (2 ^ 64 - 1) ended.received ended.cause) same c.join-ended.ensures.2 in
+    let of_writer = subst (λ (n : ℕ). IsCause n (2 ^ 64 - 1) ended.received ended.cause) same c.join-ended.ensures.2 in
+    let cause = subst (λ (k : Cause). IsCause c.args.queue.places (2 ^ 64 - 1) ended.received k) (sym c.settle_run.ensures.cause) of_writer in
+    let all_ended = subst (λ (n : ℕ). HaveEnded n ended.received.ends → AreTaken entries lines) same c.settle_run.ensures.ended in
     let so = subst (λ (n : ℕ). MatchOption c.settle_run.result.changes (IsUnsettled entries lines) (IsSettled n entries lines)) same c.settle_run.ensures.settled in
     store_run c.args.turns.items ends g.T.Turn.connections (λ end. end.turn) (λ end. end.told) (λ end. end.line) c.args.blank.limit g.N.StoreName.limit c.args.queue.places
-    c.settle_run.result.turns.items _ ended.writer ended.received ended.cause ended.ways.items c.settle_run.result.version c.settle_run.result.changes c.requires.store.1 new (sym c.requires.turns)
-    c.in_ok-served.ensures written c.settle_run.ensures.legal c.settle_run.ensures.known c.settle_run.ensures.order so placed cause c.settle_run.ensures.version c.settle_run.ensures.turns
+    c.settle_run.result.turns.items _ ended.writer ended.received c.settle_run.result.cause ended.ways.items c.settle_run.result.version c.settle_run.result.changes c.requires.store.1 new (sym c.requires.turns)
+    c.in_ok-served.ensures written c.settle_run.ensures.legal c.settle_run.ensures.known c.settle_run.ensures.order so placed cause all_ended c.settle_run.ensures.version c.settle_run.ensures.turns
 
 pub run_places-served-requires-send-G : goal.run_places-served-requires-send-G
 run_places-served-requires-send-G g c κs within = param_send 1 _ (arg_send _ no _ (gate_send (param 0 g.row.N) (copied 2 g.row.H) g.N.LineName g.N.StoreName c.type_bounds.send-H))

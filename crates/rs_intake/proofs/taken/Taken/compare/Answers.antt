@@ -11,4 +11,4 @@ returns-clause-balance g c =
     let B : PassView → Type 0 = λ v. Balances v t.0 in
     let b : Balances (view c.compare.new.pass) t.0 = subst B (sym same) t.1 in
     let made : (view c.compare.new.pass).made ≡ g.N.LineName.places = ap (λ v. v.made) same ∙ c.self.invariant.0.made in
-    (t.0, ((λ place out. b.0 place (let O : ℕ → Type 0 = λ n. IsOutside n place in subst O (sym made) out)), b.1))
+    (t.0, ((λ place out. b.0 place (let O : ℕ → Type 0 = λ n. IsOutside n place in subst O (sym made) out)), b.1, b.2))
