@@ -2,15 +2,19 @@
 
 Both listen on the loopback of one machine, and are measured in turns; each number is the median of
 five runs, or the least if a measure says so. The clients are bench/load.c. The table is for a
-person, on a quiet machine. With `--fleets` it has all fleets of clients, and nothing else. With
-`--once` each measure is made once and small, and none is judged.
+person, on a quiet machine. With `--fleets` it has all fleets of clients, and nothing else, in a
+network of its own if that may be made, where more connections may wait. There the server may lose
+none. With `--once` each measure is made once and small, and none is judged.
 """
 
 import contextlib
+import fcntl
 import itertools
 import os
 import resource
+import socket
 import statistics
+import struct
 import subprocess
 import sys
 import tempfile
@@ -42,6 +46,10 @@ GROUP = 10
 # The most clients that a server serves, and a server whose clients share one place.
 MOST_CLIENTS = 10_000
 ONE_PLACE = {"places": 1, "clients": 128}
+
+# How many connections may wait at a port of an own network, and what says that this runs in one.
+WAITING = 16_384
+OWN_NETWORK = "BENCH_OWN_NETWORK"
 
 
 def for_fleet(clients, silent=0):
@@ -258,6 +266,13 @@ def echo_wait(path, scale):
                 return one_at_a_time(Load(path, SimpleNamespace(port=port)), 20_000 // scale)
 
 
+def lost_connections():
+    """How many connections found no room to wait at their port since this network was made."""
+    with open("/proc/net/netstat") as lines:
+        names, numbers = [line.split() for line in lines if line.startswith("TcpExt:")]
+    return int(dict(zip(names, numbers))["ListenOverflows"])
+
+
 def fleet(clients, delay, stays, silent):
     """The time in which clients that connect at once have each learnt the messages of a group, and
     have left if they do not stay. Some milliseconds pass between what a client is answered and its
@@ -270,7 +285,12 @@ def fleet(clients, delay, stays, silent):
 
         def learn():
             with beside(load, int(silent > 0), "silent", silent, is_ready="ready\n"):
-                return load.times("fleet", count, groups, 1_000 * delay, int(stays))[0]
+                before = lost_connections()
+                took = load.times("fleet", count, groups, 1_000 * delay, int(stays))[0]
+                lost = lost_connections() - before
+            if lost and OWN_NETWORK in os.environ and isinstance(load.broker, Server):
+                sys.exit(f"bench: {lost} connections of {count} found no room to wait")
+            return took
 
         return learn
 
@@ -513,10 +533,33 @@ def once(path):
     print("brokers: each measure was made once")
 
 
+def run_in_own_network(words):
+    """Runs this again in a network of its own, if that may be made."""
+    command = ["unshare", "--net"]
+    if subprocess.run([*command, "true"], stderr=subprocess.DEVNULL).returncode == 0:
+        environment = {**os.environ, OWN_NETWORK: "1"}
+        own = [*command, sys.executable, "-m", "bench.brokers", *words]
+        sys.exit(subprocess.run(own, env=environment).returncode)
+
+
+def open_own_network():
+    """Brings the loopback up, and lets many connections wait."""
+    up = struct.pack("16sh", b"lo", 1)
+    with socket.socket() as any_socket:
+        # SIOCSIFFLAGS with IFF_UP.
+        fcntl.ioctl(any_socket, 0x8914, up)
+    with open("/proc/sys/net/core/somaxconn", "w") as most:
+        most.write(str(WAITING))
+
+
 def main():
     words = given_words("--once", "--fleets")
     if not debian.has(["mosquitto", "gcc", "libc6-dev"]):
         return
+    if OWN_NETWORK in os.environ:
+        open_own_network()
+    elif "--fleets" in words:
+        run_in_own_network(words)
     # A fleet needs a descriptor for each connection, on both sides.
     most = resource.getrlimit(resource.RLIMIT_NOFILE)[1]
     resource.setrlimit(resource.RLIMIT_NOFILE, (most, most))

@@ -22,6 +22,7 @@ from checks.operating_log import (
     cannot_listen,
     each_end,
     few_descriptors,
+    few_may_wait,
     no_log,
     refused_memory,
     sixty_four_at_once,
@@ -44,6 +45,7 @@ CHECKS = (
     refused_memory,
     sixty_four_at_once,
     few_descriptors,
+    few_may_wait,
     no_log,
     cannot_listen,
 )

@@ -2,6 +2,7 @@
 listen. Part of `checks/operating`."""
 
 import re
+import resource
 import tempfile
 from concurrent.futures import ThreadPoolExecutor
 from time import sleep, time
@@ -38,6 +39,9 @@ SPACE = (
     "INFO",
     "the store may take new topics again: topics were cleared, or their messages expired",
 )
+
+# The most clients that a server serves.
+MOST_CLIENTS = 10_000
 
 # A CONNECT of MQTT 3.1.1, and the answer.
 OLD_CONNECT = bytes.fromhex("100D00044D5154540402003C000161")
@@ -296,6 +300,24 @@ def few_descriptors(limit=20):
         told = (errors.startswith(first), errors.endswith(last), status)
         is_right = told == (is_told, is_fewer, int(is_fewer))
         wanted(is_right, f"{clients} clients at {places} places end with {status}, {errors!r}")
+
+
+def few_may_wait():
+    """The log says at the start if the system lets fewer connections wait than clients are
+    served."""
+    with open("/proc/sys/net/core/somaxconn") as file:
+        most = int(file.read())
+    inside = ("sh", "-c", 'ulimit -n "$(ulimit -Hn)"; exec "$@"', "sh")
+    others, limit = 6, resource.getrlimit(resource.RLIMIT_NOFILE)[1]
+    for clients in (2, most, most + 1):
+        if clients > MOST_CLIENTS or clients + others > limit:
+            continue
+        with Server(inside=inside, log=True, places=1, clients=clients, connections=1) as server:
+            Client(server).connect().disconnect()
+            _, _, errors = server.ended()
+        warning = f"{clients} clients may connect at once, and net.core.somaxconn lets {most} wait"
+        is_told = errors.startswith(f"[WARN  rstored] {warning}\n")
+        wanted(is_told == (most < clients), f"{clients} clients, {most} may wait: {errors!r}")
 
 
 def no_log():

@@ -1,5 +1,5 @@
 -- A server may cross threads, in one step. It has a store, whose catalogue is a recursive type.
-use denote.Builtin.{u16}
+use denote.Builtin.{u16, u64}
 use denote.Param.Send.{IsSend, recorded_send, sendable, struct_send}
 use denote.Struct.Declared.{shape}
 use Rattle.rs_message.proofs.places.PlaceCount.TheSendSync as count
@@ -18,5 +18,8 @@ clients_send = search sendable
 idle_send : IsSend (Option.the_field Duration.the_row).row
 idle_send = search sendable depth 60 fits 20000
 
+waiting_send : IsSend u64
+waiting_send = search sendable
+
 pub server_send : IsSend Server.the_row
-server_send = recorded_send Server.the_field.row _ _ Server.the_type.to_one (struct_send (shape Server.the_type) (heap.the_field_send, (Arc-send Listener.the_row listener.the_send listener.the_sync, (blank_send, (count.the_send, (clients_send, (idle_send, tt)))))))
+server_send = recorded_send Server.the_field.row _ _ Server.the_type.to_one (struct_send (shape Server.the_type) (heap.the_field_send, (Arc-send Listener.the_row listener.the_send listener.the_sync, (blank_send, (count.the_send, (clients_send, (idle_send, (waiting_send, tt))))))))

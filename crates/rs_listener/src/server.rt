@@ -15,12 +15,13 @@ use rs_intake::blank_queue;
 use rs_message::{LineCount, MAX_LINES, PlaceCount};
 use rs_places::run_store;
 use rs_pool::Runner;
-use rs_sockets::{Listener, descriptor_limit};
+use rs_sockets::{Listener, descriptor_limit, waiting_limit};
 use rs_store::TopicLimit;
 use rs_version::Blank;
 use rs_watch::SocketWatch;
 use std::alloc::{AllocError, Global};
 use std::net::{Net, TcpListener, TcpStream};
+use std::rt::Files;
 use std::sync::{Arc, Wait};
 use std::thread::Threads;
 use std::time::{Clock, Duration};
@@ -34,6 +35,8 @@ pub struct Server {
     places: PlaceCount,
     clients: u16,
     idle: Option<Duration>,
+    // How many clients may wait to be accepted, as the system has it.
+    waiting: u64,
     ghost each: { places ≡ blank.places },
 }
 
@@ -53,13 +56,14 @@ impl Server {
     /// that is free. It will accept `connections` connections, none if that is 0, and serve `clients` clients at the same time, but at
     /// least as many as there are `places`, and at most [`MAX_LINES`]. For each of `places` there is a seat, by which one client at a time
     /// takes the version that it reads. The store is empty, and holds messages of at most `limit` topics. If `idle` is given, a connection
-    /// ends if no byte came for so long, or if no byte of what waits for its client was taken for so long.
+    /// ends if no byte came for so long, or if no byte of what waits for its client was taken for so long. As many clients may wait to be
+    /// accepted as are served at the same time, but at least 4,096, and no more than the system lets wait.
     ///
     /// # Errors
     ///
     /// [`Address`](ListenFault::Address) if `address` is not an address, is in use, or may not be bound,
     /// [`NoMemory`](ListenFault::NoMemory) if memory is refused.
-    pub fn bind<H: Net<Listener = TcpListener, Stream = TcpStream> + Threads>(
+    pub fn bind<H: Net<Listener = TcpListener, Stream = TcpStream> + Threads + Files + AllocGlobal>(
         rt: &H,
         alloc: Global,
         address: &str,
@@ -71,14 +75,18 @@ impl Server {
     ) -> Result<Server, ListenFault> {
         let blank = Blank::new(alloc, limit, places)?;
         match Listener::bind(rt, alloc, address, connections, idle) {
-            Ok(listener) => Ok(Server {
-                alloc,
-                listener: Arc::new(alloc, listener).map_err(|_| AllocError)?,
-                blank,
-                places,
-                clients,
-                idle,
-            }),
+            Ok(listener) => {
+                listener.let_wait(clients);
+                Ok(Server {
+                    alloc,
+                    listener: Arc::new(alloc, listener).map_err(|_| AllocError)?,
+                    blank,
+                    places,
+                    clients,
+                    idle,
+                    waiting: waiting_limit(rt).unwrap_or(u64::MAX),
+                })
+            }
             Err(error) => Err(ListenFault::from(error)),
         }
     }
@@ -104,7 +112,8 @@ impl Server {
     /// ends that connection alone. Once the last connection was accepted, clients that have none may need up to a second to end.
     ///
     /// The log of `rt` has a line when each connection begins, and one that says how it ended and what it was refused, one when the store is
-    /// full, one when it may take new topics again, and before them all a warning if there are too few descriptors.
+    /// full, one when it may take new topics again, and before them all a warning if there are too few descriptors, or if too few clients may
+    /// wait to be accepted.
     ///
     /// The number of changes is that of a run of the store with so many clients, as [`run_store`] says it. The clause is weak: any number meets
     /// it, since it says nothing of what the clients sent.
@@ -131,9 +140,11 @@ impl Server {
             places,
             clients,
             idle,
+            waiting,
         } = self;
         let alone = u16::from(places.get());
         let lines = line_count(&rt, clients, alone);
+        tell_of_waiting(&rt, lines.get(), waiting);
         let queue = blank_queue(alloc, lines)?;
         let full = FullLog::new(queue.fullness()?);
         let queue = queue.with_polls(time_polls(&rt, alloc));
@@ -150,6 +161,14 @@ impl Server {
             clients: lines.get(),
             changes: end.changes,
         })
+    }
+}
+
+/// Warns if fewer clients may wait to be accepted than are served at the same time. If all connect at once, the system drops the packets of
+/// some, which try again a second later.
+fn tell_of_waiting<H: Log>(rt: &H, clients: u16, waiting: u64) {
+    if waiting < u64::from(clients) {
+        warn!(rt; target: "rstored", "{clients} clients may connect at once, and net.core.somaxconn lets {waiting} wait");
     }
 }
 

@@ -6,6 +6,7 @@ use rs_listener::{ListenFault, Server, Summary};
 use rs_message::PlaceCount;
 use rs_store::TopicLimit;
 use std::net::{Net, TcpListener, TcpStream};
+use std::rt::Files;
 use std::sync::Wait;
 use std::thread::Threads;
 use std::time::{Clock, Duration};
@@ -31,6 +32,7 @@ where
     H: Clock
         + Net<Listener = TcpListener, Stream = TcpStream>
         + Threads
+        + Files
         + Wait
         + AllocGlobal
         + Print

@@ -15,6 +15,7 @@ use std::env;
 use std::env::Env;
 use std::io::{ErrorKind, Read, Write};
 use std::net::{Net, TcpListener, TcpStream};
+use std::rt::Files;
 use std::sync::Wait;
 use std::thread::Threads;
 use std::time::Clock;
@@ -80,6 +81,7 @@ where
     H: Clock
         + Net<Listener = TcpListener, Stream = TcpStream>
         + Threads
+        + Files
         + Wait
         + Env
         + AllocGlobal
@@ -109,6 +111,7 @@ where
     H: Clock
         + Net<Listener = TcpListener, Stream = TcpStream>
         + Threads
+        + Files
         + Wait
         + Env
         + AllocGlobal

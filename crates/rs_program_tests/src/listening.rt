@@ -9,6 +9,7 @@ use std::alloc::Global;
 use std::io;
 use std::io::{ErrorKind, Read, Write};
 use std::net::{Net, TcpListener, TcpStream};
+use std::rt::Files;
 use std::sync::Wait;
 use std::test::Fail;
 use std::thread::{JoinHandle, Threads, sleep, spawn};
@@ -123,6 +124,8 @@ fn start<
         + Log
         + Net<Listener = TcpListener, Stream = TcpStream>
         + Threads
+        + Files
+        + AllocGlobal
         + Wait
         + Copy
         + Send
@@ -159,6 +162,8 @@ fn publish_and_read<
         + Log
         + Net<Listener = TcpListener, Stream = TcpStream>
         + Threads
+        + Files
+        + AllocGlobal
         + Wait
         + Copy
         + Send
@@ -180,6 +185,8 @@ fn served_of<
         + Log
         + Net<Listener = TcpListener, Stream = TcpStream>
         + Threads
+        + Files
+        + AllocGlobal
         + Wait
         + Copy
         + Send

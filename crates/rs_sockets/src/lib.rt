@@ -43,7 +43,7 @@ pub use halves::{ReadHalf, WriteHalf};
 pub use limits::{
     BACKLOG, DISCARD_SECONDS, FIRST_PAUSE, LONGEST_PAUSE, MAX_DISCARDED, MAX_GATHERED,
 };
-pub use listener::{Accepted, Listener};
+pub use listener::{Accepted, Listener, waiting_limit};
 pub use patience::{MOST_IN_VAIN, POLL_EVERY, READ_POLLS, ReadPatience, SHORT_READ};
 pub use polling::{Pollable, Pollers, Polling};
 pub use splitting::{finish, split};

@@ -1,6 +1,6 @@
 //! The limits of connections and of accepting them.
 
-/// How many connections may wait to be accepted. A fleet connects at once, and the system drops the packets of a client
+/// How many connections may wait to be accepted, at least. A fleet connects at once, and the system drops the packets of a client
 /// that finds no room. That client tries again only a second later, and then after ever longer times.
 pub const BACKLOG: i32 = 4_096;
 

@@ -10,11 +10,12 @@ use libc::net::listen;
 use std::alloc::{AllocError, Global};
 use std::net::{Net, SocketAddr, TcpListener, TcpStream};
 use std::os::fd::{AsRawFd, RawFd};
+use std::rt::Files;
 use std::sync::Arc;
 use std::sync::atomic::{AtomicU64, Ordering};
 use std::thread::Threads;
 use std::time::{Clock, Duration};
-use std::{io, thread};
+use std::{fs, io, thread};
 
 /// Accepts connections, up to a number in all. Threads share it by reference, as by an `Arc`.
 #[derive(Drop)]
@@ -39,7 +40,7 @@ pub struct Accepted {
 impl Listener {
     /// Binds an address, which is a host's name, an IPv4 or an IPv6 address, and a port, as `localhost:1883`
     /// or `[::1]:1883`. Port 0 takes one that is free. At most [`BACKLOG`] clients wait there at once, and fewer if the system has a
-    /// lower limit. It will accept `connections` connections, none if that is 0.
+    /// lower limit ([`let_wait`](Listener::let_wait) asks for more). It will accept `connections` connections, none if that is 0.
     /// A connection fails at a read or a write that is idle for as long as `idle` says, if it is given ([`open`]).
     ///
     /// # Errors
@@ -62,6 +63,12 @@ impl Listener {
             idle,
             pollers,
         })
+    }
+
+    /// Lets so many clients wait to be accepted at once, but at least [`BACKLOG`], and no more than the system does ([`waiting_limit`]).
+    pub fn let_wait(&self, clients: u16) {
+        // If the system refuses more, those of before stand.
+        let _ = listen(self.socket.as_raw_fd(), i32::from(clients).max(BACKLOG));
     }
 
     /// The address that was bound, with its port.
@@ -121,6 +128,12 @@ impl AsRawFd for Listener {
     fn as_raw_fd(&self) -> RawFd {
         self.socket.as_raw_fd()
     }
+}
+
+/// How many clients a listener may let wait at once, in this network namespace. `None` if the system does not tell.
+pub fn waiting_limit<H: Files + AllocGlobal>(rt: &H) -> Option<u64> {
+    let text = fs::read_to_string(rt, "/proc/sys/net/core/somaxconn").ok()?;
+    text.as_str().trim().parse::<u64>().ok()
 }
 
 /// The pause after the next failure.
