@@ -4,8 +4,8 @@ Whole sessions go through the program. Each time it must end with status 0, and 
 of a session that was refused memory at one packet, which keeps nothing of that packet and takes it
 when it comes again; or with status 1, write all replies before one or before a packet, and say on
 standard error what failed: never another answer. The program rs_refusals does the same with the
-calls of a catalogue, of a window, of a store of versions, of the queue to its writer, and of
-clients that share a seat.
+calls of a catalogue, of a window, of a store of versions, of the queue to its writer, of clients
+that share a seat, and of a client that is served.
 """
 
 import os
@@ -168,6 +168,7 @@ def main():
             least = {"a submit that makes no entry": 2, "a submit whose entry is held": held}
             calls("queue", least | {"the last submit": held}, library, count)
             calls("clients", least | {"an answer": 2}, library, count)
+            calls("connections", {"a connection": 2, "a publication": 2}, library, count)
 
 
 if __name__ == "__main__":

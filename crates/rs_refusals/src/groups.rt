@@ -19,7 +19,9 @@ use std::thread::{JoinHandle, Threads, spawn};
 pub const ROUNDS: u32 = 24;
 
 /// A new store of one seat, and a queue for so many lines.
-pub fn blanks(alloc: Global, lines: u16) -> Result<(Blank, BlankQueue), Failure> {
+pub fn blanks(alloc: Global, lines: u16) -> Result<(Blank, BlankQueue), Failure>
+    ensures { IfOk result (λ both. both.1.places ≡ lines) }
+{
     let limit = TopicLimit::new(ROUNDS).ok_or(Failure::Wrong)?;
     let seat = PlaceCount::new(1).ok_or(Failure::Wrong)?;
     let lines = LineCount::new(lines).ok_or(Failure::Wrong)?;

@@ -2,13 +2,14 @@
 //!
 //! `tree`, `window`, `versions`, `queue` and `clients` look at what a tree, a window, a store of versions, the queue to its writer and
 //! clients that share a seat show after they were refused memory. Each prints of each kind of call how often it was refused memory, kept
-//! what it owes, and did its work when it was called again: 0 with ample memory. `reserve` takes all memory itself, and needs a limit of the
-//! system.
+//! what it owes, and did its work when it was called again: 0 with ample memory. `connections` prints how many connections of a client were
+//! broken off so, and in how many the publication was refused. `reserve` takes all memory itself, and needs a limit of the system.
 //!
 //! The status is 1 if memory, the words or the output failed, 2 for other words, and 3 at a wrong answer.
 #![tactic(auto)]
 
 mod clients;
+mod connections;
 mod groups;
 mod queue;
 mod reserve;
@@ -36,6 +37,7 @@ fn work<H: Wait + Threads + Copy + Send + Sync + 'static>(
     };
     match name.as_str() {
         "clients" => clients::work(rt, alloc),
+        "connections" => connections::work(rt, alloc),
         "tree" => tree::work(alloc),
         "queue" => queue::work(rt, alloc),
         "reserve" => reserve::work(rt, alloc),
