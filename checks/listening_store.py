@@ -11,13 +11,19 @@ from harness.server import Server
 
 
 def one_history(count=12, topics=4, rounds=50):
-    """Clients publish numbers that rise, each on topics of its own, and read all topics after each
-    publication.
+    """Clients publish numbers that rise, each on topics of its own, one to three of them together,
+    and read all topics after that: at a place each, at a few places, and all at one.
 
     Of any two reads, whoever made them, one shows of no topic less than the other, since both are
     of one history. A read shows all that its client was told is stored, and no less than the reads
     before it.
     """
+    for options in ({"places": count}, {"places": 3, "clients": 40}, {"places": 1, "clients": 40}):
+        are_of_one_history(options, count, topics, rounds)
+
+
+def are_of_one_history(options, count, topics, rounds):
+    """The same at a server with these options."""
     names = [[b"h/%02d/%d" % (own, number) for number in range(topics)] for own in range(count)]
 
     def numbers(client):
@@ -34,11 +40,13 @@ def one_history(count=12, topics=4, rounds=50):
 
     def publish_and_read(own):
         with Client(server).connect() as client:
-            kept, reads = [0] * topics, []
-            for number in range(1, rounds + 1):
-                at = number % topics
-                client.ask(publish(names[own][at], b"%d" % number), PUBACK)
-                kept[at] = number
+            kept, reads, number = [0] * topics, [], 0
+            for turn in range(rounds):
+                together, sent = turn % 3 + 1, b""
+                for number in range(number + 1, number + together + 1):
+                    kept[number % topics] = number
+                    sent += publish(names[own][number % topics], b"%d" % number)
+                client.ask(sent, together * PUBACK)
                 reads.append(numbers(client))
                 own_read = reads[-1][own * topics : (own + 1) * topics]
                 wanted(own_read == kept, "a read does not show what was kept before")
@@ -48,7 +56,7 @@ def one_history(count=12, topics=4, rounds=50):
     def is_no_later(one, other):
         return all(number <= later for number, later in zip(one, other))
 
-    with Server(places=count) as server:
+    with Server(**options) as server:
         with Client(server).connect() as first:
             for name in sum(names, []):
                 first.ask(publish(name, b"0"), PUBACK)

@@ -12,11 +12,11 @@ from time import monotonic
 
 from checks.listening_messages import all_replayed, publish, replayed, subscribe, topic, wanted
 from checks.out_of_memory import in_turn
-from harness import packets
+from harness import debian, packets
 from harness.client import Client
 from harness.packets import CONNACK, CONNECT, DISCONNECT, NO_SPACE, PUBACK, SUBACK, puback
 from harness.patience import PATIENCE
-from harness.program import most_memory, preloaded, program
+from harness.program import ROOT, most_memory, preloaded, program
 from harness.server import Server
 from harness.sessions import QUOTA
 from harness.words import NAME, given_words
@@ -58,6 +58,35 @@ def many_connections(count):
                 pass
             serves_one_more(server)
             ends(server, count + 2)
+
+
+def connections_in_c(count):
+    """So many clients of bench/load.c come and go, one after the other, at a server without an end,
+    and one more is served."""
+    if not debian.has(["gcc", "libc6-dev"]):
+        return
+    with tempfile.TemporaryDirectory() as folder:
+        load = f"{folder}/load"
+        words = ["gcc", "-O2", "-pthread", "-o", load, ROOT / "bench" / "load.c"]
+        subprocess.run(words, check=True)
+        options = {"places": 1, "clients": 2, "connections": None, "endless": True}
+        with Server(**options) as server:
+            connect = [load, str(server.port), "connect", str(count)]
+            subprocess.run(connect, check=True, stdout=subprocess.DEVNULL)
+            serves_one_more(server)
+
+
+def long_publications(count):
+    """So many messages of 110,000 to 200,000 bytes, each of another length, take each other's place
+    at QoS 0, and each is read."""
+    with Server(places=1, connections=1) as server:
+        with Client(server).connect() as client:
+            for number in range(count):
+                size = 110_000 + 90_000 * number // count
+                sent = packets.publish(b"long", number.to_bytes(8, "big") * (size // 8))
+                client.ask(sent + subscribe(b"long"), SUBACK + sent)
+            client.disconnect()
+        ends(server, 1)
 
 
 def a_long_replay(count):
@@ -196,6 +225,9 @@ def bytes_asked(words, given, library, at):
 
 CHECKS = (
     (many_connections, 200_000, 2_000),
+    # More than fit 20 bits.
+    (connections_in_c, 1_100_000, 2_000),
+    (long_publications, 2_000, 50),
     (a_long_replay, 65_536, 5_000),
     (many_publications, 12_000_000, 100_000),
     (many_refusals, 200_000, 2_000),
