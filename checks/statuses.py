@@ -1,4 +1,4 @@
-"""Compares how the program ends in each way that PIPE.md and RUNNING.md name, and more: its status,
+"""Compares how the program ends in each way that RUNNING.md names, and more: its status,
 standard output and standard error.
 
 The texts of this project have to be the same. clap's texts are help, and why a command line is
@@ -200,7 +200,7 @@ def command_lines():
 
 
 def first_run():
-    """PIPE.md shows it."""
+    """RUNNING.md names it."""
     names = ("args", "stdin", "stdout")
     words, given, answered = ((crate() / name).read_text() for name in names)
     compare(words, given, End(0, answered))
