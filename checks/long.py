@@ -72,7 +72,9 @@ def connections_in_c(count):
         options = {"places": 1, "clients": 2, "connections": None, "endless": True}
         with Server(**options) as server:
             connect = [load, str(server.port), "connect", str(count)]
-            subprocess.run(connect, check=True, stdout=subprocess.DEVNULL)
+            # A guard against a run that hangs: each connection has a millisecond more.
+            guard = PATIENCE + count / 1_000
+            subprocess.run(connect, check=True, stdout=subprocess.DEVNULL, timeout=guard)
             serves_one_more(server)
 
 
