@@ -48,7 +48,7 @@ LIMIT = 4
 
 def run(task, packet, times):
     """The microseconds of one run, and the sum over what it made."""
-    words = [program("rs_timings"), task, str(times)]
+    words = [program("bench_timings"), task, str(times)]
     done = subprocess.run(words, input=packet, stdout=subprocess.PIPE, check=True)
     micros, total = done.stdout.split()
     return int(micros), int(total)

@@ -38,16 +38,16 @@ def grows_slowly(name, measure, few, many, limit=15):
 
 
 def trial(names, task, *numbers):
-    """By these names, the numbers that a task of rs_timings prints."""
-    words = [program("rs_timings"), task, *map(str, numbers)]
+    """By these names, the numbers that a task of bench_timings prints."""
+    words = [program("bench_timings"), task, *map(str, numbers)]
     out = subprocess.run(words, capture_output=True, text=True, check=True).stdout
     return dict(zip(names, map(int, out.split()), strict=True))
 
 
 def peak_memory(task, topics):
-    """The most kilobytes that rs_timings holds while it keeps so many messages. It lets them go one
+    """The most kilobytes that bench_timings holds while it keeps so many messages. It lets them go one
     by one, so that it is seen then."""
-    words = [program("rs_timings"), task, str(topics)]
+    words = [program("bench_timings"), task, str(topics)]
     running = subprocess.Popen(words, stdout=subprocess.DEVNULL)
     most = 0
     while running.poll() is None:

@@ -2,7 +2,7 @@
 
 from bench.measure import least, peak_memory, trial, with_rounds
 
-# What the tasks on a tree time, in the order in which rs_timings prints it.
+# What the tasks on a tree time, in the order in which bench_timings prints it.
 TIMED = {
     "tree": ("set", "replace", "answer_all", "answer_one", "answer_below", "answer_last", "clear"),
     "full": ("space", "full", "sweep"),

@@ -11,7 +11,7 @@ from harness.program import program
 def window_seconds(waiting, rounds, tries=15):
     """The shortest of some runs in which so many messages wait in a window, and so many rounds are
     made: a message is given, acknowledged and queued again."""
-    words = [program("rs_timings"), "window", str(waiting), str(rounds)]
+    words = [program("bench_timings"), "window", str(waiting), str(rounds)]
 
     def run():
         start = time.perf_counter()

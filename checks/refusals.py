@@ -32,12 +32,12 @@ FAILED = re.compile(
 )
 REASON = re.compile(r"// (?:Never|Refused): ")
 # Tests and examples refuse on purpose.
-TRIES = ("_tests", "_kit", "rs_refusals", "rs_timings", "rs_examples")
+TRIES = ("tests_", "kit_", "check_", "bench_")
 
 
 def sources():
     for crate in sorted(ROOT.glob("crates/*")):
-        if not crate.name.endswith(TRIES):
+        if not crate.name.startswith(TRIES):
             yield from sorted(crate.glob("src/**/*.rt"))
 
 

@@ -3,10 +3,10 @@ use Rattle.std.proofs.Common.{◌≡◌, ◌==◌, ℕ, zero, suc, ◌+◌, ◌<
 use Rattle.std.proofs.lemmas.Bool.{cases_lt}
 use Rattle.std.specs.List.{AllByRecursion}
 use Rattle.rs_message.specs.declared.entry.Entry.{Entry}
-use Rattle.rs_queue.specs.Changes.{place_of_all}
+use Rattle.rs_intake_queue.specs.Changes.{place_of_all}
 use Rattle.rs_intake.specs.Causes.{HaveEnded}
-use Rattle.rs_queue.specs.QueueRule.{AreEnds, IsOutside, at_place}
-use Rattle.rs_queue.proofs.Queues.{at_place-head, at_place-tail}
+use Rattle.rs_intake_queue.specs.QueueRule.{AreEnds, IsOutside, at_place}
+use Rattle.rs_intake_queue.proofs.Queues.{at_place-head, at_place-tail}
 use Rattle.rs_intake.proofs.Sums.{inside, sum_to, sum_to-add, sum_to-same, there_once, zeros}
 
 length-at_place : (place x : ℕ) (xs : List ℕ) → length (at_place place (x ∷ xs)) ≡ cond (x == place) 1 0 + length (at_place place xs)

@@ -9,12 +9,12 @@ use Rattle.rs_store.specs.Adding.{Adds}
 use Rattle.rs_store.specs.History.{SerialsRise, cleaned, extended}
 use Rattle.rs_version.specs.Writer.{Refuses, Written, kept_of, shows}
 use Rattle.rs_version.specs.declared.fault.PutFault.TheVariants.{Full, Held, NoMemory, Stale}
-use Rattle.rs_queue.specs.Changes.{AreOf, AreOfOneJob, ArePlain, place_of_all}
-use Rattle.rs_line.specs.Done.{Outcome, AreOutcomes, AreDone, AreRefusedBehind, AreReplied, IsOutcome, IsDone, IsPut, ReplyValue, has_held, is_held, is_refused, not_refused, refused_reply, refused_in, replies_to}
-use Rattle.rs_queue.specs.Parts.{IsPart}
-use Rattle.rs_line.specs.Sending.{AreToPut, ArePut}
-use Rattle.rs_line.specs.Sweeps.{AreForEntries, IsKeptFrom, IsSweptAtMost, without_sweeps}
-use Rattle.rs_queue.proofs.Parts.{all_append, part_front, part_rises}
+use Rattle.rs_intake_queue.specs.Changes.{AreOf, AreOfOneJob, ArePlain, place_of_all}
+use Rattle.rs_intake_line.specs.Done.{Outcome, AreOutcomes, AreDone, AreRefusedBehind, AreReplied, IsOutcome, IsDone, IsPut, ReplyValue, has_held, is_held, is_refused, not_refused, refused_reply, refused_in, replies_to}
+use Rattle.rs_intake_queue.specs.Parts.{IsPart}
+use Rattle.rs_intake_line.specs.Sending.{AreToPut, ArePut}
+use Rattle.rs_intake_line.specs.Sweeps.{AreForEntries, IsKeptFrom, IsSweptAtMost, without_sweeps}
+use Rattle.rs_intake_queue.proofs.Parts.{all_append, part_front, part_rises}
 use Rattle.rs_intake.proofs.Sweeps.{entry_rises, adds_kept, held_kept, no_memory_kept, kept_from_entry, kept_from_refused, kept_from_start, released_kept, without_cleaned, without_more}
 
 -- ---- a put

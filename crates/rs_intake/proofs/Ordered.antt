@@ -1,7 +1,7 @@
 -- Ends that are in the order of their places.
 use Rattle.std.proofs.Common.{◌≡◌, ◌≢◌, ◌==◌, ℕ, ◌+◌, ◌<◌, ◌≤◌, Bool, true, false, cond, List, [], ◌∷◌, length, filter, refl, arith}
 use Rattle.std.proofs.lemmas.Bool.Decides.{nat_tests}
-use Rattle.rs_queue.specs.Ends.{Closed}
+use Rattle.rs_intake_queue.specs.Ends.{Closed}
 use Rattle.rs_intake.specs.Settling.{ends_at, EachOnce}
 
 -- the ends are of the places behind this one, one after the other

@@ -9,11 +9,11 @@ use Rattle.rs_version.proofs.Sent.{writer_send}
 use Rattle.rs_version.specs.declared.history.StoreName as StoreName
 use Rattle.std.proofs.Crossing as std
 use Rattle.rs_intake.proofs.cause.Cause.TheSendSync as cause
-use Rattle.rs_line.proofs.reply.WayEnd.TheSendSync as way_end
+use Rattle.rs_intake_line.proofs.reply.WayEnd.TheSendSync as way_end
 use Rattle.rs_intake.proofs.taken.Taken.TheSendSync as taken
-use Rattle.rs_line.specs.contracts.reply.WayEnd as WayEnd
+use Rattle.rs_intake_line.specs.contracts.reply.WayEnd as WayEnd
 use Rattle.rs_intake.specs.contracts.writer.Ended as Ended
-use Rattle.rs_line.specs.declared.name.LineName as LineName
+use Rattle.rs_intake_line.specs.declared.name.LineName as LineName
 
 pub ended_send : (N R : RattleType) (g : LineName.Ghosts N.Denot) (h : StoreName.Ghosts N.Denot) → IsSend R → IsSend (Ended.the_row N R g h)
 ended_send N R g h s =

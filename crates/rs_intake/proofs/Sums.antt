@@ -5,12 +5,12 @@ use Rattle.std.proofs.lemmas.List.{append-nil, nil_from_length}
 use Rattle.std.specs.List.{AllByRecursion}
 use Rattle.std.proofs.lemmas.Bool.Decides.{nat_tests}
 use Rattle.rs_message.specs.declared.entry.Entry.{Entry}
-use Rattle.rs_queue.specs.declared.job.Job.{Job}
-use Rattle.rs_queue.specs.declared.job.Job.TheVariants.{Put, End}
-use Rattle.rs_queue.specs.QueueRule.{at_place, of_place, entries_in, entries_of, IsOutside, IsPlaced}
+use Rattle.rs_intake_queue.specs.declared.job.Job.{Job}
+use Rattle.rs_intake_queue.specs.declared.job.Job.TheVariants.{Put, End}
+use Rattle.rs_intake_queue.specs.QueueRule.{at_place, of_place, entries_in, entries_of, IsOutside, IsPlaced}
 use Rattle.rs_intake.specs.Causes.{HaveEnded}
-use Rattle.rs_queue.specs.Ends.{Closed}
-use Rattle.rs_queue.specs.declared.rule.SentFrom.{SentFrom}
+use Rattle.rs_intake_queue.specs.Ends.{Closed}
+use Rattle.rs_intake_queue.specs.declared.rule.SentFrom.{SentFrom}
 use Rattle.std.proofs.lemmas.List.Elements.{All-append, All-weaker, filter-append}
 use mathlib.Core.List.{IsPrefix}
 use Rattle.rs_intake.specs.Settling.{Covers, ends_at, EachOnce, sent_in_all, AreOfPlaces, AreTaken, AreTakenInOrder, BalancesWith}

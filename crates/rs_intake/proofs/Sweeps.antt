@@ -13,9 +13,9 @@ use Rattle.rs_store.proofs.Histories.{last_is_above, legal_front, serials_rise_m
 use Rattle.rs_store.proofs.Needed.{all_needed, needed_cleaned, needed_more, needed_none, needed_weaker}
 use Rattle.rs_version.specs.Writer.{Refuses, Written, kept_of, released, shows}
 use Rattle.rs_version.specs.declared.fault.PutFault.TheVariants.{Held, NoMemory}
-use Rattle.rs_queue.specs.Parts.{IsPart}
-use Rattle.rs_line.specs.Sweeps.{AreForEntries, IsKeptFrom, IsSweptAtMost, without_sweeps}
-use Rattle.rs_queue.proofs.Parts.{part_both, part_rises, part_skip, rises_none}
+use Rattle.rs_intake_queue.specs.Parts.{IsPart}
+use Rattle.rs_intake_line.specs.Sweeps.{AreForEntries, IsKeptFrom, IsSweptAtMost, without_sweeps}
+use Rattle.rs_intake_queue.proofs.Parts.{part_both, part_rises, part_skip, rises_none}
 
 -- ---- without the Sweeps
 

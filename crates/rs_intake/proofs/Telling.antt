@@ -4,11 +4,11 @@ use Rattle.std.proofs.lemmas.Bool.Decides.{nat_tests}
 use Rattle.std.proofs.lemmas.List.{append-nil, get_or-replicate, get_or-set_other, get_or-set_same, length-replicate, length-set}
 use Rattle.std.proofs.lemmas.List.Elements.{filter-append}
 use Rattle.rs_message.specs.declared.entry.Entry.{Entry}
-use Rattle.rs_queue.specs.Changes.{AreOf}
-use Rattle.rs_line.specs.Done.{AreSent, AreTold, Outcome, ReplyValue, Told, replies_for, replies_to, untold, way_to}
-use Rattle.rs_line.specs.Sending.{AreSentBehind, AreSentNext, AreSentTo}
-use Rattle.rs_queue.specs.declared.waiting.Gone.{Gone}
-use Rattle.rs_queue.proofs.Queues.{else_is, then_is}
+use Rattle.rs_intake_queue.specs.Changes.{AreOf}
+use Rattle.rs_intake_line.specs.Done.{AreSent, AreTold, Outcome, ReplyValue, Told, replies_for, replies_to, untold, way_to}
+use Rattle.rs_intake_line.specs.Sending.{AreSentBehind, AreSentNext, AreSentTo}
+use Rattle.rs_intake_queue.specs.declared.waiting.Gone.{Gone}
+use Rattle.rs_intake_queue.proofs.Queues.{else_is, then_is}
 
 -- ---- one way back
 

@@ -3,14 +3,14 @@ use Rattle.std.specs.Prelude.{IfSome, Option, None, Some}
 use Rattle.std.proofs.Common.{◌≡◌, ℕ, ◌+◌, List, [], ◌∷◌, ◌++◌, length, replicate, refl, sym, ap, subst, ◌∙◌, length-append, append-nil, arith}
 use Rattle.rs_message.specs.declared.entry.Entry.{Entry}
 use Rattle.rs_version.specs.Writer.{kept_of}
-use Rattle.rs_queue.specs.Changes.{AreOfOneJob, place_of_all}
-use Rattle.rs_queue.specs.QueueRule.{IsPlaced, ends_of, entries_in}
-use Rattle.rs_queue.specs.declared.job.Job.{Job}
-use Rattle.rs_queue.specs.declared.job.Job.TheVariants.{End, Put}
-use Rattle.rs_line.specs.Done.{AreReplied, AreTold, IsWritten, ReplyValue, Told, not_refused, replies_to, untold}
-use Rattle.rs_line.specs.Sending.{AreSentTo}
-use Rattle.rs_line.specs.Sweeps.{IsKeptFrom, without_sweeps}
-use Rattle.rs_line.specs.Lines.{Received}
+use Rattle.rs_intake_queue.specs.Changes.{AreOfOneJob, place_of_all}
+use Rattle.rs_intake_queue.specs.QueueRule.{IsPlaced, ends_of, entries_in}
+use Rattle.rs_intake_queue.specs.declared.job.Job.{Job}
+use Rattle.rs_intake_queue.specs.declared.job.Job.TheVariants.{End, Put}
+use Rattle.rs_intake_line.specs.Done.{AreReplied, AreTold, IsWritten, ReplyValue, Told, not_refused, replies_to, untold}
+use Rattle.rs_intake_line.specs.Sending.{AreSentTo}
+use Rattle.rs_intake_line.specs.Sweeps.{IsKeptFrom, without_sweeps}
+use Rattle.rs_intake_line.specs.Lines.{Received}
 use Rattle.rs_intake.specs.Causes.{HaveEnded, IsCause}
 use Rattle.rs_intake.specs.declared.cause.Cause.{Cause}
 use Rattle.rs_intake.specs.declared.cause.Cause.TheVariants.{AllEnded}

@@ -1,9 +1,9 @@
 -- Why the writer's loop ended.
 use Rattle.std.specs.Prelude.{ℕ, ◌≡◌, ◌+◌, ◌<◌, ◌≤◌, ◌^◌, ◌⊎◌, List, length}
-use Rattle.rs_line.specs.Lines.{Received}
-use Rattle.rs_queue.specs.QueueRule.{at_place}
+use Rattle.rs_intake_line.specs.Lines.{Received}
+use Rattle.rs_intake_queue.specs.QueueRule.{at_place}
 use Rattle.rs_intake.specs.declared.cause.Cause.{Cause}
-use Rattle.rs_queue.specs.declared.job.TheConstants.{MAX_CHANGES}
+use Rattle.rs_intake_queue.specs.declared.job.TheConstants.{MAX_CHANGES}
 use Rattle.rs_intake.specs.declared.cause.Cause.TheVariants.{AllEnded, MostTaken, QueueGone}
 
 -- of each place there is one End

@@ -5,10 +5,10 @@ use mathlib.Core.List.{IsPrefix}
 use lib.ListN.{get_elem?}
 use Rattle.rs_message.specs.Messages.{is_sweep}
 use Rattle.rs_message.specs.declared.entry.Entry.{Entry}
-use Rattle.rs_line.specs.Done.{AreDone, Outcome, ReplyValue, refused_in}
-use Rattle.rs_queue.specs.Parts.{IsPart}
-use Rattle.rs_line.specs.Sweeps.{AreForEntries, without_sweeps}
-use Rattle.rs_line.specs.ReplyRule.{Replies, WayView}
+use Rattle.rs_intake_line.specs.Done.{AreDone, Outcome, ReplyValue, refused_in}
+use Rattle.rs_intake_queue.specs.Parts.{IsPart}
+use Rattle.rs_intake_line.specs.Sweeps.{AreForEntries, without_sweeps}
+use Rattle.rs_intake_line.specs.ReplyRule.{Replies, WayView}
 
 -- whatever a way back holds: what the line received is a prefix of what the writer's end sent
 abbrev pub HeardInOrder : Type 0

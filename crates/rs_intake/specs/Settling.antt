@@ -2,11 +2,11 @@
 use Rattle.std.specs.Prelude.{ℕ, ◌≡◌, ◌==◌, ◌<◌, ◌≤◌, ◌+◌, List, [], ◌∷◌, ◌++◌, All, filter, length}
 use mathlib.Core.List.{IsPrefix}
 use Rattle.rs_message.specs.declared.entry.Entry.{Entry}
-use Rattle.rs_queue.specs.declared.rule.SentFrom.{SentFrom}
-use Rattle.rs_queue.specs.declared.job.Job.{Job}
-use Rattle.rs_queue.specs.QueueRule.{of_place, entries_of, HoldsNothingOf, IsOutside, SumsUp}
-use Rattle.rs_line.specs.Lines.{Received}
-use Rattle.rs_queue.specs.Ends.{Closed}
+use Rattle.rs_intake_queue.specs.declared.rule.SentFrom.{SentFrom}
+use Rattle.rs_intake_queue.specs.declared.job.Job.{Job}
+use Rattle.rs_intake_queue.specs.QueueRule.{of_place, entries_of, HoldsNothingOf, IsOutside, SumsUp}
+use Rattle.rs_intake_line.specs.Lines.{Received}
+use Rattle.rs_intake_queue.specs.Ends.{Closed}
 
 -- how many of the ends are of this place
 abbrev pub ends_at : ℕ → List Closed → ℕ

@@ -1,14 +1,14 @@
 -- What the writer did between its start and some moment, and what one step does.
 use Rattle.std.specs.Prelude.{ℕ, ◌≡◌, ◌+◌, List, ◌∷◌, ◌++◌, [], length, Option, Some, None}
 use Rattle.rs_version.specs.Writer.{Written, kept_of}
-use Rattle.rs_queue.specs.Changes.{AreOfOneJob, place_of_all}
-use Rattle.rs_queue.specs.QueueRule.{IsPlaced, ends_of, entries_in}
-use Rattle.rs_queue.specs.declared.job.Job.{Job}
-use Rattle.rs_queue.specs.declared.job.Job.TheVariants.{End, Put}
-use Rattle.rs_line.specs.Done.{AreReplied, IsWritten, ReplyValue, Told}
-use Rattle.rs_line.specs.Lines.{Received}
-use Rattle.rs_line.specs.Sending.{AreSentTo}
-use Rattle.rs_line.specs.Sweeps.{IsKeptFrom, without_sweeps}
+use Rattle.rs_intake_queue.specs.Changes.{AreOfOneJob, place_of_all}
+use Rattle.rs_intake_queue.specs.QueueRule.{IsPlaced, ends_of, entries_in}
+use Rattle.rs_intake_queue.specs.declared.job.Job.{Job}
+use Rattle.rs_intake_queue.specs.declared.job.Job.TheVariants.{End, Put}
+use Rattle.rs_intake_line.specs.Done.{AreReplied, IsWritten, ReplyValue, Told}
+use Rattle.rs_intake_line.specs.Lines.{Received}
+use Rattle.rs_intake_line.specs.Sending.{AreSentTo}
+use Rattle.rs_intake_line.specs.Sweeps.{IsKeptFrom, without_sweeps}
 use Rattle.rs_intake.specs.Settling.{AreOfPlaces}
 use Rattle.rs_intake.specs.declared.cause.Cause.{Cause}
 use Rattle.rs_intake.specs.declared.cause.Cause.TheVariants.{AllEnded, MostTaken, QueueGone}

@@ -4,23 +4,23 @@ ghost use Rattle.std.specs.Prelude.{◌≡◌, ◌+◌, ◌<◌, ◌≤◌, [], 
 ghost use Rattle.crossbeam_channel.specs.Claims.{view as known_by};
 ghost use Rattle.crossbeam_channel.specs.Ends.{sends_on};
 ghost use Rattle.rs_message.specs.declared.entry.TheConstants.{MAX_LINES};
-ghost use Rattle.rs_line.specs.Names.{IsQueue, IsIn};
-ghost use Rattle.rs_line.specs.Done.{untold};
-ghost use Rattle.rs_line.specs.Lines.{new_line, new_lines};
-ghost use Rattle.rs_queue.specs.declared.job.TheConstants.{MAX_CHANGES};
-ghost use Rattle.rs_line.specs.declared.reply.TheConstants.{FEW_REPLIES};
+ghost use Rattle.rs_intake_line.specs.Names.{IsQueue, IsIn};
+ghost use Rattle.rs_intake_line.specs.Done.{untold};
+ghost use Rattle.rs_intake_line.specs.Lines.{new_line, new_lines};
+ghost use Rattle.rs_intake_queue.specs.declared.job.TheConstants.{MAX_CHANGES};
+ghost use Rattle.rs_intake_line.specs.declared.reply.TheConstants.{FEW_REPLIES};
 
 use crate::taken::Taken;
 use crate::ways_back::WaysBack;
 use crate::writer::Queue;
 use crossbeam_channel::{Pass, bounded_with};
-use rs_line::{
+use rs_intake_line::{
     FEW_REPLIES, Fullness, FullnessWriter, Intake, LineName, LineSender, ReplySender, SeatLine,
     way_back,
 };
+use rs_intake_queue::steps::cut;
+use rs_intake_queue::{Job, JobReceiver, JobSender, MAX_CHANGES, PassView, Polls, QueueRule};
 use rs_message::{LineCount, MAX_PLACES};
-use rs_queue::steps::cut;
-use rs_queue::{Job, JobReceiver, JobSender, MAX_CHANGES, PassView, Polls, QueueRule};
 use std::alloc::{AllocError, Global};
 use std::marker::Model;
 use std::sync::Arc;
@@ -41,8 +41,8 @@ impl Model for BlankQueue {
     ghost use Rattle.std.specs.Prelude.{◌≡◌};
     ghost use Rattle.crossbeam_channel.specs.Claims.{view as known_by, IsSeatAt};
     ghost use Rattle.crossbeam_channel.specs.Ends.{sends_on, receives_on};
-    ghost use Rattle.rs_queue.specs.QueueRule.{taker};
-    ghost use Rattle.rs_line.specs.Names.{Unnamed, name_of};
+    ghost use Rattle.rs_intake_queue.specs.QueueRule.{taker};
+    ghost use Rattle.rs_intake_line.specs.Names.{Unnamed, name_of};
 
     ghost Value = { Unnamed };
 

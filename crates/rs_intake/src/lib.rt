@@ -1,12 +1,12 @@
 //! The writer's end of the queue: its loop, its ways back to the lines, and settling.
 //!
-//! [`run_writer`] takes jobs from the [`Queue`], puts each of their changes into the store, and replies to their line (`rs_line`). Each job is
+//! [`run_writer`] takes jobs from the [`Queue`], puts each of their changes into the store, and replies to their line (`rs_intake_line`). Each job is
 //! a step of a [`JobWriter`], which says at every moment what came of the jobs before. What is taken of a place is always a prefix of what
-//! the line sent ([`line_order_law`](rs_queue::line_order_law)), and what a line has received of the replies is a prefix of those that were
+//! the line sent ([`line_order_law`](rs_intake_queue::line_order_law)), and what a line has received of the replies is a prefix of those that were
 //! sent to it ([`reply_order_law`]).
 //!
 //! When all lines and the writer have ended, [`settle`] says whether all that was sent was taken. [`BlankQueue::open`] makes the queue with
-//! its lines, under a name ([`LineName`](rs_line::LineName)).
+//! its lines, under a name ([`LineName`](rs_intake_line::LineName)).
 //!
 //! Not promised: that the writer's loop returns, since it waits; an order between places; that memory is there.
 #![tactic(auto)]

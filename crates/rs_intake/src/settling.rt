@@ -1,14 +1,14 @@
 //! What the lines and the writer know together, once both have ended.
 
 ghost use Rattle.std.specs.Prelude.{◌≡◌, ◌^◌, ◌<◌, ◌≤◌, List, true, MatchBool, MatchOption, IfOk, IfErr, length};
-ghost use Rattle.rs_queue.specs.declared.job.Job.{Job};
+ghost use Rattle.rs_intake_queue.specs.declared.job.Job.{Job};
 ghost use Rattle.rs_intake.specs.Causes.{HaveEnded};
 ghost use Rattle.rs_intake.specs.Settling.{ends_at, EachOnce, sent_in_all, AreTaken, AreTakenInOrder, BalancesWith};
 
 use crate::fault::SettleFault;
 use crate::taken::Taken;
 use crate::writer::Ended;
-use rs_line::{LineEnd, LineName};
+use rs_intake_line::{LineEnd, LineName};
 use std::sync::Wait;
 
 fn count_at<N: LineName>(ends: &Vec<LineEnd<N>>, place: u16) -> usize

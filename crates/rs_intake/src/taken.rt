@@ -4,16 +4,16 @@ ghost use Rattle.std.specs.Prelude.{◌≡◌, ◌<◌, ◌∷◌, ◌++◌, Lis
 ghost use Rattle.crossbeam_channel.specs.Claims.{view as known_by};
 ghost use Rattle.crossbeam_channel.specs.Ends.{sends_on, receives_on};
 ghost use Rattle.rs_store.specs.History.{SerialsRise};
-ghost use Rattle.rs_queue.specs.QueueRule.{AreEnds, IsPlaced, ends_of, entries_in};
-ghost use Rattle.rs_line.specs.Names.{IsQueue, IsIn};
-ghost use Rattle.rs_line.specs.Lines.{IsTaker};
+ghost use Rattle.rs_intake_queue.specs.QueueRule.{AreEnds, IsPlaced, ends_of, entries_in};
+ghost use Rattle.rs_intake_line.specs.Names.{IsQueue, IsIn};
+ghost use Rattle.rs_intake_line.specs.Lines.{IsTaker};
 ghost use Rattle.rs_intake.specs.Settling.{IsBalanced};
-ghost use Rattle.rs_queue.specs.declared.job.Job.{Job};
+ghost use Rattle.rs_intake_queue.specs.declared.job.Job.{Job};
 
 use crossbeam_channel::Pass;
-use rs_line::LineName;
-use rs_queue::steps::{compare, join, take};
-use rs_queue::{Gone, Job, JobReceiver, JobSender, PassView, Patience};
+use rs_intake_line::LineName;
+use rs_intake_queue::steps::{compare, join, take};
+use rs_intake_queue::{Gone, Job, JobReceiver, JobSender, PassView, Patience};
 use std::marker::{Model, PhantomData};
 use std::sync::Wait;
 
@@ -28,7 +28,7 @@ pub struct Taken<N: LineName> {
 impl<N: LineName> Model for Taken<N> {
     ghost use Rattle.std.specs.Prelude.{◌≡◌};
     ghost use Rattle.crossbeam_channel.specs.Claims.{view as known_by};
-    ghost use Rattle.rs_line.specs.Lines.{Received, IsTaker};
+    ghost use Rattle.rs_intake_line.specs.Lines.{Received, IsTaker};
 
     ghost Value = { Received };
 

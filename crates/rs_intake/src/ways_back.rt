@@ -6,17 +6,17 @@ ghost use Rattle.rs_message.specs.declared.entry.Entry.{Entry};
 ghost use Rattle.rs_store.specs.History.{SerialsRise, extended};
 ghost use Rattle.rs_version.specs.Writer.{kept_of};
 ghost use Rattle.rs_version.specs.declared.fault.PutFault.TheVariants.{NoMemory};
-ghost use Rattle.rs_queue.specs.Changes.{place_of_all};
-ghost use Rattle.rs_line.specs.Done.{AreReplied, IsDone, IsOutcome, IsPut, ReplyValue, is_held};
-ghost use Rattle.rs_line.specs.Sending.{AreSentNext, AreSentTo, AreToPut, ArePut};
-ghost use Rattle.rs_line.specs.Sweeps.{IsKeptFrom};
-ghost use Rattle.rs_queue.specs.declared.job.TheConstants.{MAX_CHANGES};
+ghost use Rattle.rs_intake_queue.specs.Changes.{place_of_all};
+ghost use Rattle.rs_intake_line.specs.Done.{AreReplied, IsDone, IsOutcome, IsPut, ReplyValue, is_held};
+ghost use Rattle.rs_intake_line.specs.Sending.{AreSentNext, AreSentTo, AreToPut, ArePut};
+ghost use Rattle.rs_intake_line.specs.Sweeps.{IsKeptFrom};
+ghost use Rattle.rs_intake_queue.specs.declared.job.TheConstants.{MAX_CHANGES};
 
-use rs_line::{
+use rs_intake_line::{
     FullnessWriter, LineName, MessageSize, ReplySender, WayEnd, WriterReplies, WriterReply,
 };
+use rs_intake_queue::{Changes, Entries};
 use rs_message::Entry;
-use rs_queue::{Changes, Entries};
 use rs_version::{PutFault, VersionWriter};
 use std::alloc::Global;
 use std::collections::VecDeque;

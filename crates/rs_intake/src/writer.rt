@@ -4,23 +4,23 @@ ghost use Rattle.std.specs.Prelude.{◌≡◌, ◌+◌, ◌<◌, ◌≤◌, ◌^
 ghost use Rattle.std.specs.Option.{option_map};
 ghost use Rattle.crossbeam_channel.specs.Ends.{receives_on};
 ghost use Rattle.rs_version.specs.Writer.{kept_of};
-ghost use Rattle.rs_line.specs.Done.{IsWritten, untold};
+ghost use Rattle.rs_intake_line.specs.Done.{IsWritten, untold};
 ghost use Rattle.rs_intake.specs.Causes.{IsCause};
 ghost use Rattle.rs_intake.specs.declared.cause.Cause.TheVariants.{MostTaken};
-ghost use Rattle.rs_line.specs.Names.{IsQueue};
-ghost use Rattle.rs_queue.specs.Parts.{IsPart};
+ghost use Rattle.rs_intake_line.specs.Names.{IsQueue};
+ghost use Rattle.rs_intake_queue.specs.Parts.{IsPart};
 ghost use Rattle.rs_intake.specs.Settling.{AreOfPlaces};
 ghost use Rattle.rs_intake.specs.Writers.{IsStepBefore, IsUnderWay};
-ghost use Rattle.rs_line.specs.Sweeps.{AreForEntries, without_sweeps};
-ghost use Rattle.rs_queue.specs.declared.job.TheConstants.{MAX_CHANGES};
-ghost use Rattle.rs_line.specs.declared.reply.TheConstants.{FEW_REPLIES};
+ghost use Rattle.rs_intake_line.specs.Sweeps.{AreForEntries, without_sweeps};
+ghost use Rattle.rs_intake_queue.specs.declared.job.TheConstants.{MAX_CHANGES};
+ghost use Rattle.rs_intake_line.specs.declared.reply.TheConstants.{FEW_REPLIES};
 
 use crate::cause::Cause;
 use crate::taken::Taken;
 use crate::ways_back::WaysBack;
-use rs_line::{FEW_REPLIES, LineName, WayEnd};
+use rs_intake_line::{FEW_REPLIES, LineName, WayEnd};
+use rs_intake_queue::{Job, JobReceiver, MAX_CHANGES, Patience, Polls};
 use rs_message::Origin;
-use rs_queue::{Job, JobReceiver, MAX_CHANGES, Patience, Polls};
 use rs_version::VersionWriter;
 use std::marker::Model;
 use std::sync::Wait;
@@ -143,7 +143,7 @@ pub struct JobWriter<N: LineName, R: Wait + Drop> {
 impl<N: LineName, R: Wait + Drop> Model for JobWriter<N, R> {
     ghost use Rattle.std.specs.Prelude.{◌≡◌, ◌+◌, length};
     ghost use Rattle.crossbeam_channel.specs.Ends.{receives_on};
-    ghost use Rattle.rs_line.specs.Names.{IsQueue};
+    ghost use Rattle.rs_intake_line.specs.Names.{IsQueue};
     ghost use Rattle.rs_intake.specs.Writers.{IsUnderWay, WriterValue};
 
     ghost Value = { WriterValue };

@@ -7,11 +7,11 @@ use Rattle.std.proofs.lemmas.List.{append-nil, drop-drop, drop_at, flat_map_more
 use Rattle.std.proofs.lemmas.List.Elements.{All-head, All-tail}
 use Rattle.sqlite_wal.specs.Recovery.{Image}
 use Rattle.rs_message.specs.declared.entry.Operation.{Operation}
-use Rattle.rs_record.specs.Records.{record_form, IsOperation}
-use Rattle.rs_record.proofs.Laws.{no_other}
-use Rattle.rs_pages.specs.Images.{EachStandsForOne as EachStream, StandsFor as StandsForStream}
-use Rattle.rs_pages.proofs.ListLemmas.{take_add}
-use Rattle.rs_pages.proofs.OpenLemmas.{one_image}
+use Rattle.rs_journal_record.specs.Records.{record_form, IsOperation}
+use Rattle.rs_journal_record.proofs.Laws.{no_other}
+use Rattle.rs_journal_pages.specs.Images.{EachStandsForOne as EachStream, StandsFor as StandsForStream}
+use Rattle.rs_journal_pages.proofs.ListLemmas.{take_add}
+use Rattle.rs_journal_pages.proofs.OpenLemmas.{one_image}
 use Rattle.rs_journal.specs.Frames.{frame, frames}
 use Rattle.rs_journal.specs.Journals.{EachStandsForOne}
 use Rattle.rs_journal.specs.Law.{OneList}

@@ -3,7 +3,7 @@ use Rattle.std.specs.Prelude.{ℕ, List, ◌++◌, length}
 use Rattle.std.specs.Int.{w32, to_be_bytes}
 use Rattle.std.specs.List.{flat_map}
 use Rattle.rs_message.specs.declared.entry.Operation.{Operation}
-use Rattle.rs_record.specs.Records.{record_form}
+use Rattle.rs_journal_record.specs.Records.{record_form}
 
 -- the length of its record, and the record
 abbrev pub frame : Operation → List ℕ

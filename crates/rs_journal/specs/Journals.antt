@@ -3,8 +3,8 @@ use Rattle.std.specs.Prelude.{List, Contains}
 use Rattle.sqlite_disk.specs.declared.Disk.{Ghosts}
 use Rattle.sqlite_wal.specs.Recovery.{Image}
 use Rattle.rs_message.specs.declared.entry.Operation.{Operation}
-use Rattle.rs_pages.specs.Images.{Keeps as HasStream, StandsFor as StandsForStream}
-use Rattle.rs_pages.specs.Streams as stream
+use Rattle.rs_journal_pages.specs.Images.{Keeps as HasStream, StandsFor as StandsForStream}
+use Rattle.rs_journal_pages.specs.Streams as stream
 use Rattle.rs_journal.specs.declared.journal.Journal.{Journal}
 use Rattle.rs_journal.specs.Frames.{frames}
 

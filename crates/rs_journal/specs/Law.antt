@@ -3,7 +3,7 @@ use Rattle.std.specs.Prelude.{◌≡◌, List}
 use Rattle.std.specs.List.{All}
 use Rattle.sqlite_wal.specs.Recovery.{Image}
 use Rattle.rs_message.specs.declared.entry.Operation.{Operation}
-use Rattle.rs_record.specs.Records.{IsOperation}
+use Rattle.rs_journal_record.specs.Records.{IsOperation}
 use Rattle.rs_journal.specs.Journals.{StandsFor}
 
 -- files stand for one list of operations at most

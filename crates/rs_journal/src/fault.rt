@@ -3,8 +3,8 @@
 ghost use Rattle.std.specs.Prelude.{◌≡◌};
 ghost use Rattle.rs_journal.specs.declared.fault.ReadFault.TheVariants.{NoMemory};
 
-use rs_pages::{Error, OpenFault};
-use rs_record::RecordFault;
+use rs_journal_pages::{Error, OpenFault};
+use rs_journal_record::RecordFault;
 use std::alloc::AllocError;
 use thiserror::Error as ErrorMessage;
 

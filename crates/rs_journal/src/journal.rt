@@ -3,15 +3,15 @@
 ghost use Rattle.std.specs.Prelude.{◌≡◌, ◌⊎◌, ◌++◌, ◌∷◌, [], ◌↔◌, ℕ, List, All, IsTrue, IfOk, IfErr, OnOk, OnErr};
 ghost use Rattle.sqlite_wal.specs.Recovery.{Image};
 ghost use Rattle.rs_message.specs.declared.entry.Operation.{Operation as Kept};
-ghost use Rattle.rs_record.specs.Records.{IsOperation};
+ghost use Rattle.rs_journal_record.specs.Records.{IsOperation};
 ghost use Rattle.rs_journal.specs.Writing.{IsRefused};
 
 use crate::fault::{ReadFault, WriteFault};
 use crate::reading::{drop_front, read_frames};
 use crate::sink::OperationSink;
+use rs_journal_pages::{Error, OpenFault, PageStream};
+use rs_journal_record::put_record;
 use rs_message::Operation;
-use rs_pages::{Error, OpenFault, PageStream};
-use rs_record::put_record;
 use sqlite_disk::{Disk, Files};
 use std::alloc::{AllocFailed, Global};
 
@@ -26,7 +26,7 @@ pub struct Journal<D: Disk> {
 
 impl<D: Disk> Journal<D> {
     ghost use Rattle.rs_journal.specs.Journals.{may_leave, image, AreUsable, IsClean, IsOpen, files_of, Keeps, StandsFor, EachStandsForOne, AddsNoOutcome, Holds, Rests};
-    ghost use Rattle.rs_pages.specs.Streams.{Rests as RestsStream, Stands as StandsStream};
+    ghost use Rattle.rs_journal_pages.specs.Streams.{Rests as RestsStream, Stands as StandsStream};
     ghost use Rattle.rs_journal.specs.Frames.{frames};
 
     /// A journal over these files, which [`open`](Journal::open) has to read first. The seed is any number that no earlier opening

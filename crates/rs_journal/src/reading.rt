@@ -3,14 +3,14 @@
 ghost use Rattle.std.specs.Prelude.{◌≡◌, ◌+◌, ◌≤◌, ◌++◌, List, length, take, drop, All, IfOk, IfSome, OnOk};
 ghost use Rattle.std.specs.Int.{w32, to_be_bytes};
 ghost use Rattle.rs_message.specs.declared.entry.Operation.{Operation as Read};
-ghost use Rattle.rs_record.specs.Records.{record_form, IsOperation};
+ghost use Rattle.rs_journal_record.specs.Records.{record_form, IsOperation};
 ghost use Rattle.rs_journal.specs.Frames.{frames};
 
 use crate::fault::ReadFault;
 use crate::sink::OperationSink;
 use bytes::Bytes;
+use rs_journal_record::read_record;
 use rs_message::Operation;
-use rs_record::read_record;
 use std::alloc::{AllocError, Global};
 
 /// How many bytes behind the first four the record has that they announce, if all of it is there.

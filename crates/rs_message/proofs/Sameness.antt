@@ -7,7 +7,7 @@ use Rattle.std.proofs.lemmas.Bool.Decides.{Decides-eqb}
 use Rattle.rs_message.specs.Sizes.{level}
 use Rattle.rs_message.specs.declared.qos.Qos.{Qos}
 use Rattle.rs_message.specs.declared.qos.Qos.TheVariants.{AtMostOnce, AtLeastOnce, ExactlyOnce}
-use Rattle.rs_property.specs.Equality.{properties_eq}
+use Rattle.rs_packet_property.specs.Equality.{properties_eq}
 use Rattle.rs_message.specs.Equality.{message_eq, message_eq_equiv}
 use Rattle.rs_message.specs.Values.{MessageValue, FoundValue}
 use Rattle.rs_message.specs.declared.entry.Entry.{Entry}

@@ -1,7 +1,7 @@
 -- The size of a message that keeps no property but its interval.
 use Rattle.std.proofs.Common.{ℕ, ◌+◌, ◌/◌, ◌%◌, ◌≤◌, Bool, true, false, cond, suc, zero, List, [], ◌∷◌, length, arith, length-append, Option, Some, None}
 use Rattle.std.specs.Prelude.{nat_lt}
-use Rattle.rs_property.specs.Forms.{low_first, varint}
+use Rattle.rs_packet_property.specs.Forms.{low_first, varint}
 use Rattle.rs_message.specs.declared.limits.TheConstants.{MAX_PACKET_SIZE}
 use Rattle.rs_message.specs.Sizes.{message_size}
 use Rattle.rs_message.specs.Bare.{no_properties}

@@ -1,2 +1,2 @@
 -- A message without properties.
-pub use Rattle.rs_property.specs.Values.{no_properties}
+pub use Rattle.rs_packet_property.specs.Values.{no_properties}

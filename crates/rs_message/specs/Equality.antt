@@ -6,7 +6,7 @@ use Rattle.std.specs.Cmp.{IsEquivalence}
 use Rattle.std.specs.Cmp.Lexicographic.{pointwise, options_equiv}
 use Rattle.std.proofs.lemmas.Cmp.{nat_eq_equiv, nat_list_eq_equiv, on_equiv, and_equiv}
 use Rattle.rs_message.specs.Sizes.{level}
-use Rattle.rs_property.specs.Equality.{properties_eq, properties_eq_equiv}
+use Rattle.rs_packet_property.specs.Equality.{properties_eq, properties_eq_equiv}
 use Rattle.rs_message.specs.Values.{FoundValue, MessageValue}
 
 -- field by field

@@ -1,8 +1,8 @@
 -- The level of a QoS, and how many bytes a message takes in a PUBLISH: sections 4.3 and 3.3.2.3.
 use Rattle.std.specs.Prelude.{ℕ, ◌+◌, List, length, Option, None}
-use Rattle.rs_property.specs.Carried.{replayed}
-use Rattle.rs_property.specs.Properties.{properties}
-use Rattle.rs_property.specs.Values.{PropertiesValue}
+use Rattle.rs_packet_property.specs.Carried.{replayed}
+use Rattle.rs_packet_property.specs.Properties.{properties}
+use Rattle.rs_packet_property.specs.Values.{PropertiesValue}
 use Rattle.rs_message.specs.declared.qos.Qos.{Qos}
 use Rattle.rs_message.specs.declared.qos.Qos.TheVariants.{AtMostOnce, AtLeastOnce, ExactlyOnce}
 

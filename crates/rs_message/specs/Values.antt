@@ -1,6 +1,6 @@
 -- What contracts see of the types that keep a bound: the same fields.
 use Rattle.std.specs.Prelude.{ℕ, List, Option}
-use Rattle.rs_property.specs.Values.{PropertiesValue}
+use Rattle.rs_packet_property.specs.Values.{PropertiesValue}
 use Rattle.rs_message.specs.declared.qos.Qos.{Qos}
 
 -- 3.3.1.3: a retained message, with the properties that it carries (3.3.2.3), and when it came

@@ -10,7 +10,7 @@ use crate::found::Found;
 use crate::message::Message;
 use crate::qos::Qos;
 use bytes::Bytes;
-use rs_property::Properties;
+use rs_packet_property::Properties;
 use rs_topic::TopicName;
 use std::alloc::{AllocError, Global};
 use std::marker::Model;

@@ -25,5 +25,5 @@ pub use limits::MAX_PACKET_SIZE;
 pub use message::{Message, Remaining};
 pub use places::{LineCount, PlaceCount};
 pub use qos::Qos;
-pub use rs_property::Properties;
+pub use rs_packet_property::Properties;
 pub use same::is_same;

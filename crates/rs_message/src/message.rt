@@ -7,7 +7,7 @@ ghost use Rattle.rs_message.specs.Messages.{left_of, remaining_of, IsMessage};
 
 use crate::qos::Qos;
 use bytes::Bytes;
-use rs_property::Properties;
+use rs_packet_property::Properties;
 use std::alloc::AllocError;
 use std::marker::Model;
 

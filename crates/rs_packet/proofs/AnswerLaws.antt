@@ -4,11 +4,11 @@ use Rattle.std.specs.List.{find, list_any}
 use Rattle.std.specs.Prelude.{nat_eq, IfOk}
 use Rattle.std.proofs.lemmas.Bool.{eqb-true, ltb-false, le-ltb}
 use Rattle.std.proofs.lemmas.List.{length-append, length-drop, length-take-le, take-append-drop, take_at}
-use Rattle.rs_field.specs.declared.fault.PacketFault.{PacketFault}
-use Rattle.rs_field.specs.declared.fault.PacketFault.TheVariants.{Malformed, Protocol, TooLarge}
-use Rattle.rs_field.specs.declared.varint.VarintFault.{VarintFault}
-use Rattle.rs_field.specs.declared.varint.VarintFault.TheVariants.{Short, Bad}
-use Rattle.rs_property.specs.declared.property.PropertyOwner.TheVariants as owner
+use Rattle.rs_packet_field.specs.declared.fault.PacketFault.{PacketFault}
+use Rattle.rs_packet_field.specs.declared.fault.PacketFault.TheVariants.{Malformed, Protocol, TooLarge}
+use Rattle.rs_packet_field.specs.declared.varint.VarintFault.{VarintFault}
+use Rattle.rs_packet_field.specs.declared.varint.VarintFault.TheVariants.{Short, Bad}
+use Rattle.rs_packet_property.specs.declared.property.PropertyOwner.TheVariants as owner
 use Rattle.rs_packet.specs.declared.packet.Packet.TheVariants as packet
 use Rattle.rs_packet.specs.declared.packet.Decoded.{Decoded}
 use Rattle.rs_packet.specs.declared.packet.Decoded.TheVariants.{Whole, More}
@@ -19,15 +19,15 @@ use Rattle.rs_packet.specs.declared.packet.PacketKind.TheVariants as kind
 use Rattle.rs_packet.specs.declared.packet.Packet.{Packet}
 use Rattle.rs_packet.specs.declared.reply.Reply.{Reply}
 use Rattle.rs_packet.specs.Replies.{EncodesReply, first_byte, reply_body}
-use Rattle.rs_property.specs.Properties.{varint, varint_end}
-use Rattle.rs_field.specs.Reading.{◌>>=◌, digits_at, varint_at}
+use Rattle.rs_packet_property.specs.Properties.{varint, varint_end}
+use Rattle.rs_packet_field.specs.Reading.{◌>>=◌, digits_at, varint_at}
 use Rattle.rs_message.specs.declared.limits.TheConstants.{MAX_PACKET_SIZE}
 use Rattle.rs_packet.specs.Grammar.{head, frame, Encodes, EncodesBody, HasPrefix}
 use Rattle.rs_packet.specs.PacketReading.{Gives, kinds, others, kind_or, kind_of, connect_at, publish_at, acknowledgement_at, subscribe_at, unsubscribe_at, code_at, packet_at, body_at, sized, answer}
-use Rattle.rs_field.proofs.Numbers.{bind_ok, ok_is}
-use Rattle.rs_property.proofs.Identifiers.{chosen}
-use Rattle.rs_field.proofs.Fields.{IsBytes, IsBytes-take, IsBytes-rest, digits_takes, digits_again, varint_again}
-use Rattle.rs_property.proofs.Identifiers.{find_passes}
+use Rattle.rs_packet_field.proofs.Numbers.{bind_ok, ok_is}
+use Rattle.rs_packet_property.proofs.Identifiers.{chosen}
+use Rattle.rs_packet_field.proofs.Fields.{IsBytes, IsBytes-take, IsBytes-rest, digits_takes, digits_again, varint_again}
+use Rattle.rs_packet_property.proofs.Identifiers.{find_passes}
 
 -- ---- no encoding begins another
 

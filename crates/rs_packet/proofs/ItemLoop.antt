@@ -1,8 +1,8 @@
 -- The loop over the filters of a SUBSCRIBE or an UNSUBSCRIBE.
 use Rattle.std.proofs.Common.{◌≡◌, ℕ, zero, suc, ◌+◌, ◌≤◌, ◌<◌, List, [], ◌∷◌, ◌++◌, length, Result, Ok, Err, refl, sym, ap, ◌∙◌, arith, append_assoc}
 use Rattle.std.proofs.lemmas.List.{append-nil, length-append}
-use Rattle.rs_field.specs.declared.fault.PacketFault.{PacketFault}
-use Rattle.rs_field.specs.declared.fault.PacketFault.TheVariants.{Malformed, Protocol, TooLarge, Version, NoMemory}
+use Rattle.rs_packet_field.specs.declared.fault.PacketFault.{PacketFault}
+use Rattle.rs_packet_field.specs.declared.fault.PacketFault.TheVariants.{Malformed, Protocol, TooLarge, Version, NoMemory}
 use Rattle.rs_packet.specs.PacketReading.{◌>>=◌, Fails, all_in}
 
 abbrev pub with_front : {A : Type 0} → List A → Result (List A) PacketFault → Result (List A) PacketFault

@@ -5,8 +5,8 @@ use Rattle.std.specs.Prelude.{Option}
 use Rattle.std.proofs.Common.{Some, None}
 use Rattle.std.specs.Prelude.{is_some}
 use Rattle.std.proofs.lemmas.List.{append-nil, length-append}
-use Rattle.rs_property.specs.declared.property.Property.TheVariants as property
-use Rattle.rs_property.specs.Values.{PropertiesValue}
+use Rattle.rs_packet_property.specs.declared.property.Property.TheVariants as property
+use Rattle.rs_packet_property.specs.Values.{PropertiesValue}
 use Rattle.rs_message.specs.declared.qos.Qos.{Qos}
 use Rattle.rs_message.specs.declared.qos.Qos.TheVariants.{AtMostOnce, AtLeastOnce, ExactlyOnce}
 use Rattle.rs_packet.specs.declared.reply.ConnackAccepted.{ConnackAccepted}
@@ -14,13 +14,13 @@ use Rattle.rs_packet.specs.declared.reply.PublishReply.{PublishReply}
 use Rattle.rs_packet.specs.declared.reply.Reply.TheVariants as reply
 use Rattle.rs_packet.specs.Grammar.{IdFits, id_bytes, frame}
 use Rattle.rs_message.specs.Sizes.{level}
-use Rattle.rs_property.specs.Carried.{optional, replayed}
+use Rattle.rs_packet_property.specs.Carried.{optional, replayed}
 use Rattle.rs_message.specs.declared.limits.TheConstants.{MAX_PACKET_SIZE}
 use Rattle.rs_packet.specs.Replies.{publish_remaining, publish_reply_body, reply_bytes, session_expiry_bytes, assigned_client_bytes, limit_bytes, accepting, accepted_body}
 use Rattle.rs_message.specs.Sizes.{message_len}
-use Rattle.rs_property.proofs.Replayed.{length_replayed}
-use Rattle.rs_field.proofs.Written.{varint_short}
-use Rattle.rs_property.specs.Properties.{varint, varint_end, property_bytes, counted}
+use Rattle.rs_packet_property.proofs.Replayed.{length_replayed}
+use Rattle.rs_packet_field.proofs.Written.{varint_short}
+use Rattle.rs_packet_property.specs.Properties.{varint, varint_end, property_bytes, counted}
 
 id_len : (o : Option ℕ) → length (id_bytes o) ≡ cond (is_some o) 2 0
 id_len None = refl

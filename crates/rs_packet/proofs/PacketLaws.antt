@@ -11,10 +11,10 @@ use Rattle.rs_packet.specs.declared.packet.Connect.{Connect}
 use Rattle.std.specs.Int.{w16}
 use Rattle.std.proofs.lemmas.Bool.{ltb-true, lt-ltb, eqb-false, eqb-true, ne_eqb}
 use Rattle.std.proofs.lemmas.List.{length-append, append-nil}
-use Rattle.rs_field.specs.declared.fault.PacketFault.{PacketFault}
-use Rattle.rs_field.specs.declared.fault.PacketFault.TheVariants.{Malformed, Protocol, Version}
-use Rattle.rs_property.specs.declared.property.PropertyOwner.{PropertyOwner}
-use Rattle.rs_property.specs.declared.property.PropertyOwner.TheVariants as owner
+use Rattle.rs_packet_field.specs.declared.fault.PacketFault.{PacketFault}
+use Rattle.rs_packet_field.specs.declared.fault.PacketFault.TheVariants.{Malformed, Protocol, Version}
+use Rattle.rs_packet_property.specs.declared.property.PropertyOwner.{PropertyOwner}
+use Rattle.rs_packet_property.specs.declared.property.PropertyOwner.TheVariants as owner
 use Rattle.rs_message.specs.declared.qos.Qos.{Qos}
 use Rattle.rs_message.specs.declared.qos.Qos.TheVariants.{AtMostOnce, AtLeastOnce, ExactlyOnce}
 use Rattle.rs_packet.specs.declared.packet.RetainHandling.{RetainHandling}
@@ -24,16 +24,16 @@ use Rattle.rs_packet.specs.declared.packet.Publish.{Publish}
 use Rattle.rs_packet.specs.declared.packet.Acknowledgement.{Acknowledgement}
 use Rattle.rs_topic.specs.Texts.{IsText}
 use Rattle.rs_topic.specs.Topics.{filter_of}
-use Rattle.rs_property.specs.Values.{PacketProperties}
+use Rattle.rs_packet_property.specs.Values.{PacketProperties}
 use Rattle.rs_packet.specs.Values.{SubscribeValue, UnsubscribeValue, Asked, Filter}
-use Rattle.rs_property.specs.Properties.{two, counted, IsShort, properties, collected, nothing, low_first, property_bytes}
-use Rattle.rs_field.specs.Reading.{◌>>=◌, number_at, byte_at, binary_at, text_at, wanting, values_at}
+use Rattle.rs_packet_property.specs.Properties.{two, counted, IsShort, properties, collected, nothing, low_first, property_bytes}
+use Rattle.rs_packet_field.specs.Reading.{◌>>=◌, number_at, byte_at, binary_at, text_at, wanting, values_at}
 use Rattle.rs_packet.specs.Grammar.{bit, handling, IsId, IdFits, id_bytes, publication, EncodesPublish, EncodesCode, EncodesAcknowledgement, options_byte, AreTexts, text_of, filter_bytes, asked_of, EncodesSubscribe, EncodesUnsubscribe, protocol, flags_byte, FlagsFit, EncodesIf, EncodesPayload, MethodFits, EncodesConnect}
 use Rattle.rs_message.specs.Sizes.{level}
 use Rattle.rs_packet.specs.PacketReading.{id_at, id_for, publish_at, ended, code_at, acknowledgement_at, qos_of, handling_of, options_of, asked_at, all_in, some_of, subscribe_at, filter_at, unsubscribe_at, mqtt, flags_of, past_text, past_binary, client_at, version_at, connect_at}
-use Rattle.rs_field.proofs.Numbers.{bind_ok, ok_is}
-use Rattle.rs_field.proofs.Fields.{IsBytes, IsBytes-rest, Takes, Takes-then, wide16, number_takes, number_again, binary_takes, binary_again, text_takes, text_again}
-use Rattle.rs_field.proofs.PropertyLaws.{wanted, byte_takes, values_takes, values_again}
+use Rattle.rs_packet_field.proofs.Numbers.{bind_ok, ok_is}
+use Rattle.rs_packet_field.proofs.Fields.{IsBytes, IsBytes-rest, Takes, Takes-then, wide16, number_takes, number_again, binary_takes, binary_again, text_takes, text_again}
+use Rattle.rs_packet_field.proofs.PropertyLaws.{wanted, byte_takes, values_takes, values_again}
 
 -- ---- packet identifiers
 

@@ -2,24 +2,24 @@
 use Rattle.std.proofs.Common.{◌≡◌, ℕ, zero, suc, ◌+◌, ◌-◌, ◌*◌, ◌<◌, ◌≤◌, Bool, true, false, cond, eqb, ltb, List, [], ◌∷◌, ◌++◌, length, take, slice_range, Option, Some, None, Result, Ok, Err, refl, sym, ap, subst, ◌∙◌, append_assoc, arith, inl, inr}
 use Rattle.std.proofs.lemmas.Bool.{cases_lt, ltb-true, ltb-false, lt-ltb, le-ltb}
 use Rattle.std.proofs.lemmas.List.{append-nil, nil_from_length, length-append, take-append-le, take_all, length-take-le}
-use Rattle.rs_field.specs.declared.fault.PacketFault.{PacketFault}
-use Rattle.rs_field.specs.declared.fault.PacketFault.TheVariants.{Malformed, Protocol, TooLarge, Version, NoMemory}
-use Rattle.rs_field.specs.declared.varint.VarintFault.{VarintFault}
-use Rattle.rs_field.specs.declared.varint.VarintFault.TheVariants.{Short, Bad}
+use Rattle.rs_packet_field.specs.declared.fault.PacketFault.{PacketFault}
+use Rattle.rs_packet_field.specs.declared.fault.PacketFault.TheVariants.{Malformed, Protocol, TooLarge, Version, NoMemory}
+use Rattle.rs_packet_field.specs.declared.varint.VarintFault.{VarintFault}
+use Rattle.rs_packet_field.specs.declared.varint.VarintFault.TheVariants.{Short, Bad}
 use Rattle.rs_packet.specs.declared.packet.Decoded.{Decoded}
 use Rattle.rs_packet.specs.declared.packet.Decoded.TheVariants.{Whole, More}
 use Rattle.rs_packet.specs.declared.packet.PacketKind.{PacketKind}
 use Rattle.rs_packet.specs.declared.packet.Packet.{Packet}
-use Rattle.rs_field.specs.Reading.{◌>>=◌, digits_at, IsEnd}
+use Rattle.rs_packet_field.specs.Reading.{◌>>=◌, digits_at, IsEnd}
 use Rattle.rs_message.specs.declared.limits.TheConstants.{MAX_PACKET_SIZE}
 use Rattle.rs_packet.specs.Grammar.{Encodes}
 use Rattle.rs_packet.specs.declared.header.Header.{Header}
 use Rattle.rs_packet.specs.PacketReading.{Gives, Fails, kind_of, packet_at, body_at, header_in, header_at, packet_in, sized, answer}
 use Rattle.rs_packet.specs.Prefixes.{IsMore, IsFaulty}
 use Rattle.bytes.proofs.Ranges.{take-append_past}
-use Rattle.rs_property.specs.Properties.{varint, varint_end}
-use Rattle.rs_field.proofs.Numbers.{IsEnd-next, digits_rest, cut}
-use Rattle.rs_field.proofs.Fields.{IsBytes, IsBytes-rest, digits_takes, digits_again}
+use Rattle.rs_packet_property.specs.Properties.{varint, varint_end}
+use Rattle.rs_packet_field.proofs.Numbers.{IsEnd-next, digits_rest, cut}
+use Rattle.rs_packet_field.proofs.Fields.{IsBytes, IsBytes-rest, digits_takes, digits_again}
 use Rattle.rs_packet.proofs.AnswerLaws.{answer_again, encoded_once}
 
 -- ---- a packet has one reading

@@ -4,12 +4,12 @@ use Rattle.std.specs.Prelude.{IfSome}
 use Rattle.std.specs.List.{flat_map}
 use Rattle.std.specs.Int.{w16}
 use Rattle.std.proofs.lemmas.Bool.{ne_eqb, eqb-true}
-use Rattle.rs_field.specs.declared.fault.PacketFault.{PacketFault}
-use Rattle.rs_property.specs.Values.{PropertiesValue}
-use Rattle.rs_property.specs.Properties.{varint, varint_end, two, property_bytes, properties, IsShort}
-use Rattle.rs_field.specs.Reading.{number_at, binary_at, varint_at}
-use Rattle.rs_property.specs.Carried.{replayed}
-use Rattle.rs_field.proofs.Fields.{wide16, number_again, binary_again, varint_again}
+use Rattle.rs_packet_field.specs.declared.fault.PacketFault.{PacketFault}
+use Rattle.rs_packet_property.specs.Values.{PropertiesValue}
+use Rattle.rs_packet_property.specs.Properties.{varint, varint_end, two, property_bytes, properties, IsShort}
+use Rattle.rs_packet_field.specs.Reading.{number_at, binary_at, varint_at}
+use Rattle.rs_packet_property.specs.Carried.{replayed}
+use Rattle.rs_packet_field.proofs.Fields.{wide16, number_again, binary_again, varint_again}
 use Rattle.rs_message.specs.declared.qos.Qos.{Qos}
 use Rattle.rs_message.specs.declared.qos.Qos.TheVariants.{AtMostOnce, AtLeastOnce, ExactlyOnce}
 use Rattle.rs_packet.specs.declared.reply.ConnackAccepted.{ConnackAccepted}
@@ -22,7 +22,7 @@ use Rattle.rs_message.specs.Sizes.{level}
 use Rattle.rs_packet.specs.Replies.{limit_bytes, accepting, accepted_body, acknowledging, codes_body, publish_reply_body, first_byte, reply_body, HasEncoding, PublishFits, ReplyFits, EncodesReply}
 use Rattle.rs_packet.proofs.Lengths.{length_accepting, length_accepted, section_small}
 use Rattle.rs_packet.proofs.AnswerLaws.{pair_is, same_prefix, frame_parts}
-use Rattle.rs_field.proofs.CarriedLaws.{section_is}
+use Rattle.rs_packet_field.proofs.CarriedLaws.{section_is}
 
 -- ---- PUBLISH
 

@@ -2,16 +2,16 @@
 use Rattle.std.proofs.Common.{◌≡◌, [], ◌∷◌, Ok, Err, Some, None, true, false, refl}
 use Rattle.std.specs.Str.{is_utf8, chars}
 use lib.Utf8.{encode}
-use Rattle.rs_field.specs.declared.fault.PacketFault.TheVariants.{Malformed, Protocol, TooLarge, Version}
+use Rattle.rs_packet_field.specs.declared.fault.PacketFault.TheVariants.{Malformed, Protocol, TooLarge, Version}
 use Rattle.rs_message.specs.declared.qos.Qos.TheVariants.{AtMostOnce}
 use Rattle.rs_packet.specs.declared.packet.RetainHandling.TheVariants.{Always}
 use Rattle.rs_packet.specs.declared.packet.Packet.TheVariants as packet
 use Rattle.rs_packet.specs.declared.packet.Decoded.TheVariants.{Whole, More}
 use Rattle.rs_packet.specs.declared.reply.Reply.TheVariants as reply
 use Rattle.rs_topic.specs.Topics.{name_of, filter_of, levels}
-use Rattle.rs_property.specs.Properties.{low_first, collected}
-use Rattle.rs_field.specs.Reading.{digits_at, varint_at, binary_at, text_at, value_at, property_at, properties_in, properties_at, values_at}
-use Rattle.rs_property.specs.Properties.{identifier_of}
+use Rattle.rs_packet_property.specs.Properties.{low_first, collected}
+use Rattle.rs_packet_field.specs.Reading.{digits_at, varint_at, binary_at, text_at, value_at, property_at, properties_in, properties_at, values_at}
+use Rattle.rs_packet_property.specs.Properties.{identifier_of}
 use Rattle.rs_packet.specs.PacketReading.{kind_of, id_at, publish_at, options_of, asked_at, all_in, subscribe_at, packet_at, answer, connect_at, version_at, flags_of, client_at}
 use Rattle.rs_packet.specs.Replies.{reply_bytes}
 

@@ -1,8 +1,8 @@
 -- What the types of packets and replies keep.
 use Rattle.std.specs.Prelude.{ℕ, ◌<◌, ◌≤◌, length, IfSome}
-use Rattle.rs_property.specs.Bounds.{MaximaFit}
+use Rattle.rs_packet_property.specs.Bounds.{MaximaFit}
 use Rattle.rs_packet.specs.Values.{PublishValue, ConnectValue, PublishReplyValue, SubscribeValue, UnsubscribeValue, CodesValue}
-use Rattle.rs_property.specs.Properties.{IsSubscriptionId, varint_end}
+use Rattle.rs_packet_property.specs.Properties.{IsSubscriptionId, varint_end}
 use Rattle.rs_message.specs.declared.limits.TheConstants.{MAX_PACKET_SIZE}
 use Rattle.rs_packet.specs.Grammar.{IdFits}
 use Rattle.rs_packet.specs.Replies.{publish_reply_body, codes_body}

@@ -1,9 +1,9 @@
 -- The packets that a client sends, as bytes: sections 2 and 3.
 use Rattle.std.specs.Prelude.{◌≡◌, ℕ, ◌+◌, ◌*◌, ◌<◌, ◌≤◌, ◌^◌, Bool, true, false, List, [], ◌∷◌, ◌++◌, length, map, take, Option, Some, None}
 use Rattle.std.specs.List.{flat_map}
-use Rattle.rs_property.specs.declared.property.Property.{Property}
-use Rattle.rs_property.specs.declared.property.PropertyOwner.{PropertyOwner}
-use Rattle.rs_property.specs.declared.property.PropertyOwner.TheVariants as owner
+use Rattle.rs_packet_property.specs.declared.property.Property.{Property}
+use Rattle.rs_packet_property.specs.declared.property.PropertyOwner.{PropertyOwner}
+use Rattle.rs_packet_property.specs.declared.property.PropertyOwner.TheVariants as owner
 use Rattle.rs_message.specs.declared.limits.TheConstants.{MAX_PACKET_SIZE}
 use Rattle.rs_message.specs.declared.qos.Qos.{Qos}
 use Rattle.rs_message.specs.declared.qos.Qos.TheVariants.{AtMostOnce, AtLeastOnce, ExactlyOnce}
@@ -23,10 +23,10 @@ use Rattle.rs_packet.specs.declared.packet.Decoded.TheVariants.{Whole, More}
 use Rattle.rs_message.specs.Sizes.{level}
 use Rattle.rs_topic.specs.Texts.{IsText}
 use Rattle.rs_topic.specs.Topics.{name_of, filter_of}
-use Rattle.rs_property.specs.Values.{PacketProperties}
-use Rattle.rs_property.specs.Carried.{carried}
+use Rattle.rs_packet_property.specs.Values.{PacketProperties}
+use Rattle.rs_packet_property.specs.Carried.{carried}
 use Rattle.rs_packet.specs.Values.{SubscribeValue, UnsubscribeValue, Asked}
-use Rattle.rs_property.specs.Properties.{varint, two, counted, IsShort, AreProperties, properties, collected, nothing}
+use Rattle.rs_packet_property.specs.Properties.{varint, two, counted, IsShort, AreProperties, properties, collected, nothing}
 
 abbrev pub bit : Bool → ℕ
 bit true = 1

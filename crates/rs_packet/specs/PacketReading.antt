@@ -3,12 +3,12 @@ use Rattle.std.specs.Prelude.{ℕ, zero, suc, ◌+◌, ◌-◌, ◌/◌, ◌%◌
 use Rattle.std.specs.List.{list_any, find}
 use Rattle.std.specs.Str.{bytes_eq}
 use Rattle.std.specs.Int.{w16}
-use Rattle.rs_field.specs.declared.fault.PacketFault.{PacketFault}
-use Rattle.rs_field.specs.declared.fault.PacketFault.TheVariants.{Malformed, Protocol, TooLarge, Version}
-use Rattle.rs_field.specs.declared.varint.VarintFault.{VarintFault}
-use Rattle.rs_field.specs.declared.varint.VarintFault.TheVariants.{Short, Bad}
-use Rattle.rs_property.specs.declared.property.PropertyOwner.{PropertyOwner}
-use Rattle.rs_property.specs.declared.property.PropertyOwner.TheVariants as owner
+use Rattle.rs_packet_field.specs.declared.fault.PacketFault.{PacketFault}
+use Rattle.rs_packet_field.specs.declared.fault.PacketFault.TheVariants.{Malformed, Protocol, TooLarge, Version}
+use Rattle.rs_packet_field.specs.declared.varint.VarintFault.{VarintFault}
+use Rattle.rs_packet_field.specs.declared.varint.VarintFault.TheVariants.{Short, Bad}
+use Rattle.rs_packet_property.specs.declared.property.PropertyOwner.{PropertyOwner}
+use Rattle.rs_packet_property.specs.declared.property.PropertyOwner.TheVariants as owner
 use Rattle.rs_message.specs.declared.qos.Qos.{Qos}
 use Rattle.rs_message.specs.declared.qos.Qos.TheVariants.{AtMostOnce, AtLeastOnce, ExactlyOnce}
 use Rattle.rs_packet.specs.declared.packet.RetainHandling.{RetainHandling}
@@ -29,8 +29,8 @@ use Rattle.rs_topic.specs.Topics.{filter_of}
 use Rattle.rs_packet.specs.Values.{SubscribeValue, UnsubscribeValue, Asked, Filter}
 use Rattle.rs_message.specs.declared.limits.TheConstants.{MAX_PACKET_SIZE}
 use Rattle.rs_packet.specs.Grammar.{head, publication}
-pub use Rattle.rs_field.specs.Reading.{◌>>=◌, Fails, Gives, GivesNumber}
-use Rattle.rs_field.specs.Reading.{digits_at, byte_at, number_at, binary_at, text_at, wanting, values_at}
+pub use Rattle.rs_packet_field.specs.Reading.{◌>>=◌, Fails, Gives, GivesNumber}
+use Rattle.rs_packet_field.specs.Reading.{digits_at, byte_at, number_at, binary_at, text_at, wanting, values_at}
 
 -- ---- the first byte
 

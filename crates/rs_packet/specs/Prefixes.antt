@@ -1,7 +1,7 @@
 -- What the first bytes of a packet say of it, whatever follows them.
 use Rattle.std.specs.Prelude.{◌≡◌, ℕ, List, Ok, Err}
-use Rattle.rs_field.specs.declared.fault.PacketFault.{PacketFault}
-use Rattle.rs_field.specs.declared.fault.PacketFault.TheVariants.{Malformed, Protocol, TooLarge, Version, NoMemory}
+use Rattle.rs_packet_field.specs.declared.fault.PacketFault.{PacketFault}
+use Rattle.rs_packet_field.specs.declared.fault.PacketFault.TheVariants.{Malformed, Protocol, TooLarge, Version, NoMemory}
 use Rattle.rs_packet.specs.declared.packet.Decoded.TheVariants.{More}
 use Rattle.rs_packet.specs.PacketReading.{answer}
 

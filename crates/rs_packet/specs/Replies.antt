@@ -5,11 +5,11 @@ use Rattle.rs_packet.specs.declared.reply.ConnackAccepted.{ConnackAccepted}
 use Rattle.rs_packet.specs.declared.reply.PublishReply.{PublishReply}
 use Rattle.rs_packet.specs.declared.reply.Reply.{Reply}
 use Rattle.rs_packet.specs.declared.reply.Reply.TheVariants as reply
-use Rattle.rs_property.specs.Values.{PropertiesValue}
-use Rattle.rs_property.specs.Carried.{replayed}
-use Rattle.rs_property.specs.Bounds.{SectionFits}
+use Rattle.rs_packet_property.specs.Values.{PropertiesValue}
+use Rattle.rs_packet_property.specs.Carried.{replayed}
+use Rattle.rs_packet_property.specs.Bounds.{SectionFits}
 use Rattle.rs_packet.specs.Values.{CodesValue}
-use Rattle.rs_property.specs.Properties.{two, four, varint, counted, properties, varint_end, IsShort}
+use Rattle.rs_packet_property.specs.Properties.{two, four, varint, counted, properties, varint_end, IsShort}
 use Rattle.rs_packet.specs.declared.limits.TheConstants.{RECEIVE_MAXIMUM}
 use Rattle.rs_message.specs.declared.limits.TheConstants.{MAX_PACKET_SIZE}
 use Rattle.rs_packet.specs.Grammar.{IdFits, frame, id_bytes}

@@ -3,7 +3,7 @@ use Rattle.std.specs.Prelude.{ℕ, List, Bool, Option, Result}
 use Rattle.rs_topic.specs.declared.text.TopicFault.{TopicFault}
 use Rattle.rs_message.specs.declared.qos.Qos.{Qos}
 use Rattle.rs_packet.specs.declared.packet.Options.{Options}
-use Rattle.rs_property.specs.Values.{PropertiesValue}
+use Rattle.rs_packet_property.specs.Values.{PropertiesValue}
 
 pub record PublishValue : Type 0 where
   pub duplicate : Bool

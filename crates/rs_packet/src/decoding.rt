@@ -6,8 +6,8 @@ ghost use Rattle.rs_packet.specs.declared.reply.Reply.{Reply};
 ghost use Rattle.rs_packet.specs.Replies.{EncodesReply};
 ghost use Rattle.rs_packet.specs.Grammar.{IdFits, HasPrefix, Encodes};
 ghost use Rattle.rs_packet.specs.PacketReading.{Gives, id_at, id_for, publish_at, code_at, acknowledgement_at, subscribe_at, unsubscribe_at, flags_of, mqtt, version_at, past_text, past_binary, client_at, connect_at, packet_at, packet_in, answer};
-ghost use Rattle.rs_field.specs.declared.fault.PacketFault.{PacketFault};
-ghost use Rattle.rs_field.specs.declared.fault.PacketFault.TheVariants.{NoMemory};
+ghost use Rattle.rs_packet_field.specs.declared.fault.PacketFault.{PacketFault};
+ghost use Rattle.rs_packet_field.specs.declared.fault.PacketFault.TheVariants.{NoMemory};
 ghost use Rattle.rs_packet.specs.Prefixes.{IsMore, IsFaulty};
 ghost use Rattle.rs_message.specs.declared.limits.TheConstants.{MAX_PACKET_SIZE};
 ghost use Rattle.std.specs.Str.{bytes_eq};
@@ -20,11 +20,11 @@ use crate::packet::{
     Subscribe, Unsubscribe,
 };
 use bytes::Bytes;
-use rs_field::{
+use rs_message::Qos;
+use rs_packet_field::{
     PacketFault, note_octets, read_binary, read_properties, read_string, read_u8, read_u16,
 };
-use rs_message::Qos;
-use rs_property::{Properties, PropertyFields, PropertyOwner, PropertyValues};
+use rs_packet_property::{Properties, PropertyFields, PropertyOwner, PropertyValues};
 use rs_topic::{Text, TopicName};
 use std::alloc::Global;
 

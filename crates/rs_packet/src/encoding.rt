@@ -1,7 +1,7 @@
 //! Encoding the replies. Those of a fixed form are encoded here, the others in a file of `encoding/` each.
 
 ghost use Rattle.std.specs.Prelude.{◌≡◌, ◌<◌, ◌++◌, length, OnOk, IfOk};
-ghost use Rattle.rs_property.specs.Forms.{varint_end};
+ghost use Rattle.rs_packet_property.specs.Forms.{varint_end};
 ghost use Rattle.rs_packet.specs.Grammar.{frame};
 ghost use Rattle.rs_packet.specs.Replies.{reply_body, reply_bytes, HasEncoding, ReplyFits, EncodesReply};
 
@@ -11,7 +11,7 @@ use crate::encoding::connack::{accepted_len, put_accepted};
 use crate::encoding::publish::{body_len, put_publish_head, put_publish_reply};
 use crate::reply::{PublishReply, Reply};
 use bytes::Bytes;
-use rs_field::{put_varint, varint_len};
+use rs_packet_field::{put_varint, varint_len};
 use std::alloc::{AllocError, Global};
 
 mod acknowledgements;

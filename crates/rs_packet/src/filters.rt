@@ -1,14 +1,14 @@
 //! Reading the filters of a SUBSCRIBE (3.8.3) and of an UNSUBSCRIBE (3.10.3).
 
 ghost use Rattle.std.specs.Prelude.{◌≡◌, ◌<◌, ◌≤◌, ◌/◌, ◌%◌, not, nat_lt, length, List, ℕ, Result, IfOk, OnOk};
-ghost use Rattle.rs_field.specs.declared.fault.PacketFault.{PacketFault};
+ghost use Rattle.rs_packet_field.specs.declared.fault.PacketFault.{PacketFault};
 ghost use Rattle.rs_packet.specs.PacketReading.{Gives, options_of, asked_at, filter_at, all_in};
 
 use crate::masks::is_set;
 use crate::packet::{Options, RetainHandling};
 use bytes::Bytes;
-use rs_field::{PacketFault, read_string, read_u8};
 use rs_message::Qos;
+use rs_packet_field::{PacketFault, read_string, read_u8};
 use rs_topic::{TopicFault, TopicFilter};
 use std::alloc::Global;
 

@@ -7,8 +7,8 @@ ghost use Rattle.rs_packet.specs.PacketReading.{header_at, answer};
 ghost use Rattle.rs_packet.specs.Prefixes.{IsMore};
 
 use crate::packet::PacketKind;
-use rs_field::{PacketFault, VarintFault, parse_varint};
 use rs_message::MAX_PACKET_SIZE;
+use rs_packet_field::{PacketFault, VarintFault, parse_varint};
 
 /// What the first bytes of a packet say.
 #[derive(Clone, Copy)]

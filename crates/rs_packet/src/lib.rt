@@ -30,6 +30,6 @@ pub use packet::{
     Subscribe, Unsubscribe,
 };
 pub use reply::{Codes, ConnackAccepted, PublishReply, Reply};
-pub use rs_field::PacketFault;
 pub use rs_message::Qos;
-pub use rs_property::{MAX_REMAINING_LENGTH, Properties, PropertyFields, SubscriptionId};
+pub use rs_packet_field::PacketFault;
+pub use rs_packet_property::{MAX_REMAINING_LENGTH, Properties, PropertyFields, SubscriptionId};

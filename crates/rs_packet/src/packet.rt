@@ -1,9 +1,9 @@
 //! The packets that a client sends.
 
 use bytes::Bytes;
-use rs_field::PacketFault;
 use rs_message::Qos;
-use rs_property::{Properties, SubscriptionId};
+use rs_packet_field::PacketFault;
+use rs_packet_property::{Properties, SubscriptionId};
 use rs_topic::{Text, TopicFault, TopicFilter, TopicName};
 use std::marker::Model;
 

@@ -1,11 +1,11 @@
 //! What the server sends.
 
 ghost use Rattle.std.specs.Prelude.{◌≡◌, IfSome};
-ghost use Rattle.rs_property.specs.Forms.{IsSubscriptionId};
+ghost use Rattle.rs_packet_property.specs.Forms.{IsSubscriptionId};
 
 use crate::packet::PacketId;
 use rs_message::{Found, MAX_PACKET_SIZE, Qos};
-use rs_property::SubscriptionId;
+use rs_packet_property::SubscriptionId;
 use rs_topic::Text;
 use std::marker::Model;
 

@@ -5,14 +5,14 @@ use Rattle.std.proofs.lemmas.Bool.Decides.{nat_tests}
 use Rattle.std.proofs.lemmas.List.{map-append}
 use Rattle.std.proofs.lemmas.List.Elements.{filter-append}
 use Rattle.std.specs.List.{AllZip, filter}
-use Rattle.rs_line.specs.Lines.{Line, new_line, new_lines}
-use Rattle.rs_queue.specs.Ends.{Closed}
+use Rattle.rs_intake_line.specs.Lines.{Line, new_line, new_lines}
+use Rattle.rs_intake_queue.specs.Ends.{Closed}
 use Rattle.rs_intake.specs.Settling.{EachOnce, ends_at}
-use Rattle.rs_turns.specs.Places.{IsPlaceServed, Left, places_of}
-use Rattle.rs_turns.specs.Visits.{Place}
+use Rattle.rs_places_turns.specs.Places.{IsPlaceServed, Left, places_of}
+use Rattle.rs_places_turns.specs.Visits.{Place}
 use Rattle.rs_places.specs.Gates.{handed_on}
 use Rattle.rs_places.specs.Store.{new_gates}
-use Rattle.rs_turns.specs.Turns.{Connections}
+use Rattle.rs_places_turns.specs.Turns.{Connections}
 
 -- how many of the numbers are this one
 abbrev count_of : ℕ → List ℕ → ℕ

@@ -6,10 +6,10 @@ use denote.Param.Send.{IsSend, IsSync, enum_send, recorded_send, recorded_sync, 
 use denote.Struct.Declared.{shape}
 use Rattle.core.proofs.sync.Sent.{Mutex-send, Mutex-sync}
 use Rattle.core.specs.contracts.sync.Mutex as Mutex
-use Rattle.rs_line.proofs.intake.Intake.TheSendSync as intake
-use Rattle.rs_line.proofs.line.SeatLine.TheSendSync as line
-use Rattle.rs_line.specs.contracts.intake.Intake as Intake
-use Rattle.rs_line.specs.declared.name.LineName as LineName
+use Rattle.rs_intake_line.proofs.intake.Intake.TheSendSync as intake
+use Rattle.rs_intake_line.proofs.line.SeatLine.TheSendSync as line
+use Rattle.rs_intake_line.specs.contracts.intake.Intake as Intake
+use Rattle.rs_intake_line.specs.declared.name.LineName as LineName
 use Rattle.rs_version.proofs.Sent.{seat_send}
 use Rattle.rs_version.proofs.receipt.Told.TheSendSync as told
 use Rattle.rs_version.specs.contracts.seat.Seat as Seat

@@ -7,11 +7,11 @@ use Rattle.rs_message.specs.declared.fault.SubmitFault.{SubmitFault}
 use Rattle.rs_message.specs.declared.fault.SubmitFault.TheVariants.{Strange}
 use Rattle.rs_message.specs.declared.fault.SubmitFault.TheVariants as submit_fault
 use Rattle.rs_session.specs.Gate.{Mark, Sends, SendsAtMost, Submits, TakesPending, Uses, UsesIfOpen, entry_by}
-use Rattle.rs_queue.specs.Changes.{entry_at, numbered}
-use Rattle.rs_line.specs.Lines.{AddsAtMost, IsAheadAfter, IsOther, Line, next_serial}
-use Rattle.rs_line.specs.Refusals.{IsRefused, IsUnsent}
-use Rattle.rs_turns.specs.Shared.{SharedValue, operations_of}
-use Rattle.rs_turns.proofs.Receipts.{none_handed_over}
+use Rattle.rs_intake_queue.specs.Changes.{entry_at, numbered}
+use Rattle.rs_intake_line.specs.Lines.{AddsAtMost, IsAheadAfter, IsOther, Line, next_serial}
+use Rattle.rs_intake_line.specs.Refusals.{IsRefused, IsUnsent}
+use Rattle.rs_places_turns.specs.Shared.{SharedValue, operations_of}
+use Rattle.rs_places_turns.proofs.Receipts.{none_handed_over}
 use Rattle.rs_places.specs.Gates.{IsOtherPending, gate_of, handed_on, mark_of}
 
 -- a submit to which no reply came, or that the writer holds, used a serial

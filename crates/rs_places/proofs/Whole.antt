@@ -8,28 +8,28 @@ use Rattle.std.proofs.lemmas.List.Elements.{All-more, recursion_from_All}
 use Rattle.rs_message.specs.declared.entry.Entry.{Entry}
 use Rattle.rs_store.specs.History.{IsLegal}
 use Rattle.rs_version.specs.Writer.{Written, kept_of}
-use Rattle.rs_line.specs.Lines.{Line, Received, new_line, new_lines}
-use Rattle.rs_queue.specs.Ends.{Closed}
-use Rattle.rs_queue.specs.Parts.{IsPart}
-use Rattle.rs_queue.specs.QueueRule.{of_place}
-use Rattle.rs_line.specs.Done.{IsWritten, Outcome, Told, is_refused, not_refused}
+use Rattle.rs_intake_line.specs.Lines.{Line, Received, new_line, new_lines}
+use Rattle.rs_intake_queue.specs.Ends.{Closed}
+use Rattle.rs_intake_queue.specs.Parts.{IsPart}
+use Rattle.rs_intake_queue.specs.QueueRule.{of_place}
+use Rattle.rs_intake_line.specs.Done.{IsWritten, Outcome, Told, is_refused, not_refused}
 use Rattle.rs_intake.specs.Causes.{HaveEnded, IsCause}
 use Rattle.rs_intake.specs.Settling.{AreOfPlaces, AreTaken, AreTakenInOrder, EachOnce}
 use Rattle.rs_intake.specs.declared.cause.Cause.{Cause}
 use Rattle.rs_intake.specs.declared.cause.Cause.TheVariants.{AllEnded, MostTaken, QueueGone}
-use Rattle.rs_line.specs.Sweeps.{without_sweeps}
+use Rattle.rs_intake_line.specs.Sweeps.{without_sweeps}
 use Rattle.rs_session.specs.Gate.{Extends, Sends}
-use Rattle.rs_turns.specs.Visits.{Place}
-use Rattle.rs_turns.specs.Places.{IsPlaceServed, Left, left_at, places_of}
-use Rattle.rs_turns.specs.Shared.{SharedValue}
+use Rattle.rs_places_turns.specs.Visits.{Place}
+use Rattle.rs_places_turns.specs.Places.{IsPlaceServed, Left, left_at, places_of}
+use Rattle.rs_places_turns.specs.Shared.{SharedValue}
 use Rattle.rs_places.specs.Gates.{handed_on}
-use Rattle.rs_turns.specs.Within.{ArePublications}
+use Rattle.rs_places_turns.specs.Within.{ArePublications}
 use Rattle.rs_places.specs.Store.{IsEndOfRun, IsLineOf, IsPlaceOf, IsSettled, IsStoreRun, IsUnsettled, IsWriterRun, gates_of, new_gates}
-use Rattle.rs_turns.specs.Turns.{Connections}
+use Rattle.rs_places_turns.specs.Turns.{Connections}
 use Rattle.rs_places.proofs.EachOnce.{each_once}
-use Rattle.rs_turns.proofs.Each.{each_length, each_with}
-use Rattle.rs_turns.proofs.Places.{places_length}
-use Rattle.rs_turns.proofs.Within.{all_behind, visits_send, visits_within}
+use Rattle.rs_places_turns.proofs.Each.{each_length, each_with}
+use Rattle.rs_places_turns.proofs.Places.{places_length}
+use Rattle.rs_places_turns.proofs.Within.{all_behind, visits_send, visits_within}
 
 part_behind : {A : Type 0} (xs ys : List A) (y : A) → IsPart xs ys → IsPart xs (y ∷ ys)
 part_behind [] ys y p = tt

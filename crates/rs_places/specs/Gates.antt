@@ -2,9 +2,9 @@
 use Rattle.std.specs.Prelude.{◌≢◌, ◌+◌, ◌++◌, ◌∷◌, List, [], length, Some}
 use Rattle.rs_message.specs.declared.entry.Entry.{Entry}
 use Rattle.rs_message.specs.declared.entry.Operation.{Operation}
-use Rattle.rs_line.specs.Lines.{Line}
+use Rattle.rs_intake_line.specs.Lines.{Line}
 use Rattle.rs_session.specs.Gate.{Mark}
-use Rattle.rs_turns.specs.Shared.{SharedValue, operations_of}
+use Rattle.rs_places_turns.specs.Shared.{SharedValue, operations_of}
 
 -- the mark of a line, without what is ahead of it
 abbrev pub mark_of : Line → Mark

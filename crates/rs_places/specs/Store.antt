@@ -4,23 +4,23 @@ use Rattle.std.specs.List.{AllZip}
 use Rattle.rs_message.specs.declared.entry.Entry.{Entry}
 use Rattle.rs_store.specs.History.{IsLegal}
 use Rattle.rs_version.specs.Copies.{listed}
-use Rattle.rs_line.specs.Done.{AreDone, Outcome, not_refused}
-use Rattle.rs_line.specs.Lines.{Line, new_lines}
+use Rattle.rs_intake_line.specs.Done.{AreDone, Outcome, not_refused}
+use Rattle.rs_intake_line.specs.Lines.{Line, new_lines}
 use Rattle.rs_intake.specs.declared.cause.Cause.{Cause}
 use Rattle.rs_intake.specs.declared.cause.Cause.TheVariants.{AllEnded, MostTaken, QueueGone}
 use Rattle.rs_intake.specs.Settling.{AreOfPlaces, AreTaken, EachOnce, sent_in_all}
-use Rattle.rs_line.specs.Sweeps.{without_sweeps}
-use Rattle.rs_queue.specs.Ends.{Closed}
-use Rattle.rs_queue.specs.declared.job.TheConstants.{MAX_CHANGES}
-use Rattle.rs_queue.specs.Parts.{IsPart}
-use Rattle.rs_queue.specs.QueueRule.{of_place}
+use Rattle.rs_intake_line.specs.Sweeps.{without_sweeps}
+use Rattle.rs_intake_queue.specs.Ends.{Closed}
+use Rattle.rs_intake_queue.specs.declared.job.TheConstants.{MAX_CHANGES}
+use Rattle.rs_intake_queue.specs.Parts.{IsPart}
+use Rattle.rs_intake_queue.specs.QueueRule.{of_place}
 use Rattle.rs_session.specs.Gate.{Extends}
 use Rattle.rs_places.specs.Gates.{handed_on}
-use Rattle.rs_turns.specs.Places.{IsPlaceServed, Left, places_of}
-use Rattle.rs_turns.specs.Shared.{SharedValue}
-use Rattle.rs_turns.specs.Turns.{Connections}
-use Rattle.rs_turns.specs.Visits.{Place}
-use Rattle.rs_turns.specs.Within.{ArePublications, AreWithin}
+use Rattle.rs_places_turns.specs.Places.{IsPlaceServed, Left, places_of}
+use Rattle.rs_places_turns.specs.Shared.{SharedValue}
+use Rattle.rs_places_turns.specs.Turns.{Connections}
+use Rattle.rs_places_turns.specs.Visits.{Place}
+use Rattle.rs_places_turns.specs.Within.{ArePublications, AreWithin}
 
 -- the gates of these seats and lines, which are handed on. What is left of the longer list is left out
 abbrev pub gates_of : List (List Entry) → List Line → List SharedValue

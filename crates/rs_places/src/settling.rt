@@ -10,8 +10,8 @@ ghost use Rattle.rs_version.specs.Writer.{kept_of};
 
 use crate::store::StoreEnd;
 use rs_intake::{Ended, settle};
-use rs_line::{LineEnd, LineName};
-use rs_turns::PlaceEnd;
+use rs_intake_line::{LineEnd, LineName};
+use rs_places_turns::PlaceEnd;
 use rs_version::VersionWriter;
 use std::sync::Wait;
 

@@ -11,10 +11,10 @@ use crate::seats::Seats;
 use crate::settling::settle_run;
 use crate::shared_gate::SharedGate;
 use rs_intake::{BlankQueue, Cause, Ended, Queue, run_writer};
-use rs_line::{Intake, LineName, SeatLine};
-use rs_pool::{Runner, Watch};
-use rs_steps::run_places;
-use rs_turns::{FreeGate, PlacesEnd, StoreFault, Turn};
+use rs_intake_line::{Intake, LineName, SeatLine};
+use rs_places_pool::{Runner, Watch};
+use rs_places_steps::run_places;
+use rs_places_turns::{FreeGate, PlacesEnd, StoreFault, Turn};
 use rs_version::{Blank, Seat, Told, VersionWriter};
 use std::alloc::{AllocError, Global};
 use std::marker::Brand;
@@ -118,7 +118,7 @@ struct PutsJobs;
 
 impl<N: LineName, R: Wait + Drop> Promise<Ended<N, R>> for PutsJobs {
     ghost use Rattle.std.specs.Prelude.{◌-◌, ◌^◌};
-    ghost use Rattle.rs_line.specs.Done.{IsWritten};
+    ghost use Rattle.rs_intake_line.specs.Done.{IsWritten};
     ghost use Rattle.rs_intake.specs.Causes.{IsCause};
     ghost use Rattle.rs_intake.specs.Settling.{AreOfPlaces};
     ghost use Rattle.rs_version.specs.Writer.{kept_of};

@@ -1,6 +1,6 @@
 -- The faults of the program, and its exit statuses.
 use Rattle.std.specs.Prelude.{ℕ, cond, ltb, Option, Some, None, Result, Ok, Err}
-use Rattle.rs_pipe.specs.Faults.{pipe_status}
+use Rattle.rs_program_pipe.specs.Faults.{pipe_status}
 use Rattle.rs_program.specs.declared.words.WordsFault.{WordsFault}
 use Rattle.rs_program.specs.declared.words.WordsFault.TheVariants as words
 use Rattle.rs_program.specs.declared.program.RunFault.{RunFault}

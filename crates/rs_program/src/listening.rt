@@ -2,9 +2,9 @@
 
 use log::sink::Console;
 use log::{LevelFilter, Logged};
-use rs_listener::{ListenFault, Server, Summary};
 use rs_message::PlaceCount;
 use rs_store::TopicLimit;
+use rs_tcp_server::{ListenFault, Server, Summary};
 use std::net::{Net, TcpListener, TcpStream};
 use std::rt::Files;
 use std::sync::Wait;

@@ -7,9 +7,9 @@ ghost use Rattle.rs_program.specs.declared.program.RunFault.{RunFault};
 
 use crate::listening::listen;
 use crate::words::{Run, WordsFault, read_words, refused};
-use rs_listener::{ListenFault, Summary};
-use rs_pipe::{OwnGate, PipeFault, pipe};
+use rs_program_pipe::{OwnGate, PipeFault, pipe};
 use rs_server::Served;
+use rs_tcp_server::{ListenFault, Summary};
 use std::alloc::Global;
 use std::env;
 use std::env::Env;

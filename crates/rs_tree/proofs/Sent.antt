@@ -1,7 +1,7 @@
 -- The tree and its messages may cross threads, in one step for whatever holds them.
 use denote.Param.Send.{IsSend, IsSync, sendable}
 use Rattle.std.proofs.Crossing as std
-use Rattle.rs_branch.proofs.Sent.{branch_send, branch_sync, remains_send, remains_sync}
+use Rattle.rs_tree_branch.proofs.Sent.{branch_send, branch_sync, remains_send, remains_sync}
 use Rattle.rs_tree.specs.contracts.messages.TreeMessages as Messages
 use Rattle.rs_tree.specs.contracts.tree.TreeCatalogue as Tree
 

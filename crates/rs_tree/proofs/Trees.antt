@@ -20,13 +20,13 @@ use Rattle.rs_message.specs.declared.entry.Operation.{Operation}
 use Rattle.rs_message.specs.declared.entry.Operation.TheVariants.{Set, Clear, Sweep}
 use Rattle.rs_store.specs.Contents.{after, found_of, is_answered, is_gone, stays}
 use Rattle.rs_store.specs.declared.limit.TheConstants.{MAX_TOPICS}
-use Rattle.rs_bucket.specs.Sweeping.{is_expired_spot, spot_stays}
+use Rattle.rs_tree_bucket.specs.Sweeping.{is_expired_spot, spot_stays}
 use Rattle.rs_tree.specs.Trees.{ArePlaced, IsTree}
-use Rattle.rs_branch.specs.Chosen.{chosen_at_root, is_matched, is_dollar}
+use Rattle.rs_tree_branch.specs.Chosen.{chosen_at_root, is_matched, is_dollar}
 use Rattle.rs_topic.proofs.Rests.{from_start}
 use Rattle.rs_topic.specs.Rests.{levels_from}
-use Rattle.rs_bucket.specs.Spots.{Spot, is_there}
-use Rattle.rs_branch.specs.Spots.{pair_of, pairs}
+use Rattle.rs_tree_bucket.specs.Spots.{Spot, is_there}
+use Rattle.rs_tree_branch.specs.Spots.{pair_of, pairs}
 use Rattle.std.specs.Prelude.{nat_le}
 use Rattle.rs_store.proofs.Entries.{sorted_none, sorted_insert, sorted_remove, sorted_filter}
 use Rattle.rs_store.proofs.Maps.{filter_few, insert_old, insert_new, no_space, remove_there, remove_absent, space_if_few, space_if_there, space_after_clear, space_after_sweep}

@@ -4,8 +4,8 @@ use Rattle.std.specs.List.Sorted.{IsStrictlySortedBy}
 use Rattle.std.specs.Map.{keys_of}
 use Rattle.rs_topic.specs.Order.{topic_cmp}
 use Rattle.rs_topic.specs.Topics.{levels}
-use Rattle.rs_bucket.specs.Spots.{Spot}
-use Rattle.rs_branch.specs.Spots.{pairs}
+use Rattle.rs_tree_bucket.specs.Spots.{Spot}
+use Rattle.rs_tree_branch.specs.Spots.{pairs}
 
 -- each path is the levels of its topic
 abbrev pub ArePlaced : List Spot → Type 0

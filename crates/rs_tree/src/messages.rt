@@ -9,15 +9,15 @@ ghost use Rattle.std.specs.Map.{keys_of, remove_entry};
 ghost use Rattle.rs_topic.specs.Order.{topic_cmp};
 ghost use Rattle.rs_store.specs.Contents.{after, found_of, if_fits, is_answered, is_gone, stays};
 ghost use Rattle.rs_store.specs.Expiring.{first_end};
-ghost use Rattle.rs_branch.specs.Spots.{pairs};
+ghost use Rattle.rs_tree_branch.specs.Spots.{pairs};
 ghost use Rattle.rs_store.specs.declared.limit.TheConstants.{MAX_TOPICS};
 ghost use Rattle.rs_tree.specs.Trees.{ArePlaced, IsTree};
 
 use crate::root::Root;
-use rs_branch::{IndexPath, Remains};
 use rs_message::{Found, Operation};
 use rs_store::{Answer, Messages, Stop, TopicLimit};
 use rs_topic::{TopicFilter, TopicName};
+use rs_tree_branch::{IndexPath, Remains};
 use std::alloc::{AllocError, Global};
 use std::marker::Model;
 
@@ -36,7 +36,7 @@ impl Model for TreeMessages {
     ghost use Rattle.std.specs.Prelude.{List, ℕ};
     ghost use Rattle.rs_message.specs.Values.{MessageValue};
     ghost use Rattle.rs_tree.specs.Trees.{IsTree};
-    ghost use Rattle.rs_branch.specs.Spots.{pairs};
+    ghost use Rattle.rs_tree_branch.specs.Spots.{pairs};
 
     ghost Value = { List (List ℕ × MessageValue) };
 

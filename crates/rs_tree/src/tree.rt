@@ -4,10 +4,10 @@ ghost use Rattle.std.specs.Prelude.{◌≡◌, OnErr, OnOk};
 ghost use Rattle.rs_store.specs.Contents.{Accepts, followed};
 
 use crate::messages::TreeMessages;
-use rs_branch::{IndexPath, Remains};
 use rs_message::{Entry, Found};
 use rs_store::{Catalogue, Ledger, Messages, Refusal, TopicLimit};
 use rs_topic::TopicFilter;
+use rs_tree_branch::{IndexPath, Remains};
 use std::alloc::{AllocError, Global};
 use std::marker::Model;
 

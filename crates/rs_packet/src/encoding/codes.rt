@@ -1,12 +1,12 @@
 //! SUBACK (3.9) and UNSUBACK (3.11).
 
 ghost use Rattle.std.specs.Prelude.{◌≡◌, ◌<◌, ◌^◌, ◌++◌, length, OnOk};
-ghost use Rattle.rs_property.specs.Forms.{varint_end};
+ghost use Rattle.rs_packet_property.specs.Forms.{varint_end};
 ghost use Rattle.rs_packet.specs.Grammar.{frame};
 ghost use Rattle.rs_packet.specs.Replies.{codes_body};
 
 use crate::reply::Codes;
-use rs_field::{put_u16, put_varint};
+use rs_packet_field::{put_u16, put_varint};
 use std::alloc::AllocError;
 
 /// Appends a SUBACK or an UNSUBACK.

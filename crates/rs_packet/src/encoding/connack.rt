@@ -1,15 +1,15 @@
 //! CONNACK (3.2).
 
 ghost use Rattle.std.specs.Prelude.{◌≡◌, ◌+◌, ◌<◌, ◌^◌, ◌++◌, length, OnOk, IfSome};
-ghost use Rattle.rs_property.specs.Forms.{varint_end, IsShort};
+ghost use Rattle.rs_packet_property.specs.Forms.{varint_end, IsShort};
 ghost use Rattle.rs_packet.specs.Grammar.{frame};
 ghost use Rattle.rs_packet.specs.Replies.{session_expiry_bytes, assigned_client_bytes, limit_bytes, accepting, accepted_body};
 
 use crate::limits::RECEIVE_MAXIMUM;
 use crate::reply::ConnackAccepted;
-use rs_field::{put_string, put_u16, put_u32, put_varint, varint_len};
 use rs_message::MAX_PACKET_SIZE;
-use rs_property::Identifier;
+use rs_packet_field::{put_string, put_u16, put_u32, put_varint, varint_len};
+use rs_packet_property::Identifier;
 use rs_topic::Text;
 use std::alloc::AllocError;
 

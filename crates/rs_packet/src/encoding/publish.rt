@@ -2,18 +2,20 @@
 
 ghost use Rattle.std.specs.Prelude.{◌≡◌, ◌+◌, ◌*◌, ◌<◌, ◌^◌, ◌++◌, length, ℕ, List, Option, OnOk, if◌then◌else◌};
 ghost use Rattle.std.specs.List.{flat_map};
-ghost use Rattle.rs_property.specs.Forms.{varint, varint_end};
-ghost use Rattle.rs_property.specs.Properties.{property_bytes};
-ghost use Rattle.rs_property.specs.Carried.{replayed};
+ghost use Rattle.rs_packet_property.specs.Forms.{varint, varint_end};
+ghost use Rattle.rs_packet_property.specs.Properties.{property_bytes};
+ghost use Rattle.rs_packet_property.specs.Carried.{replayed};
 ghost use Rattle.rs_packet.specs.Grammar.{IdFits, frame, id_bytes};
 ghost use Rattle.rs_message.specs.Sizes.{level};
 ghost use Rattle.rs_packet.specs.Replies.{publish_reply_body, publish_remaining, reply_bytes, PublishFits};
 
 use crate::packet::PacketId;
 use crate::reply::{PublishReply, Reply};
-use rs_field::{properties_len, put_binary, put_properties, put_u16, put_varint, varint_len};
 use rs_message::Qos;
-use rs_property::{Properties, SubscriptionId};
+use rs_packet_field::{
+    properties_len, put_binary, put_properties, put_u16, put_varint, varint_len,
+};
+use rs_packet_property::{Properties, SubscriptionId};
 use rs_topic::TopicName;
 use std::alloc::AllocError;
 

@@ -8,7 +8,7 @@ ghost use Rattle.rs_program.specs.CommandLine.{address_option, clients_option, c
 use clap::builder::ValueParser;
 use clap::{Arg, ArgAction, Command};
 use rs_message::{MAX_LINES, MAX_PLACES};
-use rs_pipe::MAX_OWN_TOPICS;
+use rs_program_pipe::MAX_OWN_TOPICS;
 use rs_store::MAX_TOPICS;
 use std::alloc::{AllocError, Global};
 

@@ -1,7 +1,7 @@
 use Rattle.std.proofs.Common.{◌≡◌, ◌≤◌, List, drop, length, nat_eq, true, arith, sym, subst}
 use Rattle.std.proofs.lemmas.List.{drop_all}
 use Rattle.std.proofs.lemmas.Bool.Decides.{nat_tests}
-use Rattle.rs_queue.specs.Ends.{Closed}
+use Rattle.rs_intake_queue.specs.Ends.{Closed}
 use Rattle.rs_intake.proofs.Ordered.{AreFrom, once_in_order}
 use Rattle.rs_intake.proofs.settling.are_in_order.Goals as goal
 

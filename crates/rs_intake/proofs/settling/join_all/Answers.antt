@@ -1,7 +1,7 @@
 use Rattle.std.proofs.Common.{◌≡◌, ◌<◌, ◌∷◌, ◌++◌, [], List, length, sym, ap, subst, ◌∙◌, append_assoc}
 use Rattle.std.proofs.lemmas.List.{append-nil, nil_from_length}
-use Rattle.rs_queue.specs.declared.rule.SentFrom.{SentFrom}
-use Rattle.rs_queue.specs.Ends.{Closed}
+use Rattle.rs_intake_queue.specs.declared.rule.SentFrom.{SentFrom}
+use Rattle.rs_intake_queue.specs.Ends.{Closed}
 use Rattle.rs_intake.specs.Settling.{Covers}
 use Rattle.rs_intake.proofs.Sums.{covers_more}
 use Rattle.rs_intake.proofs.settling.join_all.Goals as goal

@@ -1,5 +1,5 @@
 use Rattle.std.proofs.Common.{◌≡◌, ◌<◌, ◌++◌, List, length}
-use Rattle.rs_queue.specs.declared.job.Job.{Job}
+use Rattle.rs_intake_queue.specs.declared.job.Job.{Job}
 use Rattle.rs_intake.specs.Settling.{Covers, IsBalanced}
 use Rattle.rs_intake.proofs.settling.join_all.Given as goal
 

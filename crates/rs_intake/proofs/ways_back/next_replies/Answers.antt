@@ -1,5 +1,5 @@
 use Rattle.std.proofs.Common.{rules, ◌≡◌, [], length, map}
-use Rattle.rs_line.specs.Done.{refused_reply}
+use Rattle.rs_intake_line.specs.Done.{refused_reply}
 use Rattle.rs_intake.proofs.Done.{left_none, put_refusing}
 use Rattle.rs_intake.proofs.ways_back.next_replies.Goals as goal
 

@@ -1,6 +1,6 @@
 use Rattle.std.proofs.Common.{List, ◌∷◌, [], refl, inl, subst, arith}
-use Rattle.rs_line.specs.Done.{ReplyValue}
-use Rattle.rs_line.specs.Sending.{AreSentNext}
+use Rattle.rs_intake_line.specs.Done.{ReplyValue}
+use Rattle.rs_intake_line.specs.Sending.{AreSentNext}
 use Rattle.rs_intake.proofs.Done.{left_plain, left_rises, replied_one}
 use Rattle.rs_intake.proofs.ways_back.put_alone.Goals as goal
 

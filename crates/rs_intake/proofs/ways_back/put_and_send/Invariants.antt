@@ -1,8 +1,8 @@
 use Rattle.std.proofs.Common.{◌+◌, ◌≤◌, List, false, length}
 use Rattle.rs_version.specs.Writer.{kept_of}
-use Rattle.rs_line.specs.Done.{ReplyValue}
-use Rattle.rs_line.specs.Sending.{AreSentNext, AreToPut, ArePut}
-use Rattle.rs_queue.specs.declared.job.TheConstants.{MAX_CHANGES}
+use Rattle.rs_intake_line.specs.Done.{ReplyValue}
+use Rattle.rs_intake_line.specs.Sending.{AreSentNext, AreToPut, ArePut}
+use Rattle.rs_intake_queue.specs.declared.job.TheConstants.{MAX_CHANGES}
 use Rattle.rs_intake.proofs.ways_back.put_and_send.Given as goal
 
 abbrev pub invariant-loop-alloc : goal.invariant-loop-alloc

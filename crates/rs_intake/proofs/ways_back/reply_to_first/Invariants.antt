@@ -1,7 +1,7 @@
 use Rattle.std.proofs.Common.{◌≡◌, ◌+◌, ◌≤◌, length}
 use Rattle.std.specs.Prelude.{vec_capacity}
 use Rattle.rs_version.specs.Writer.{kept_of}
-use Rattle.rs_line.specs.Sending.{AreToPut, ArePut}
+use Rattle.rs_intake_line.specs.Sending.{AreToPut, ArePut}
 use Rattle.rs_intake.proofs.ways_back.reply_to_first.Given as goal
 
 abbrev pub invariant-loop-rest : goal.invariant-loop-rest

@@ -2,7 +2,7 @@ use Rattle.std.proofs.Common.{ℕ, ◌++◌, ◌∷◌, [], List, sym, ap, ◌�
 use Rattle.std.proofs.lemmas.List.{append-nil}
 use Rattle.std.proofs.lemmas.List.Elements.{All-nil, All-push}
 use Rattle.rs_message.specs.declared.entry.Operation.{Operation}
-use Rattle.rs_record.specs.Records.{IsOperation}
+use Rattle.rs_journal_record.specs.Records.{IsOperation}
 use Rattle.rs_journal.specs.Frames.{frame}
 use Rattle.rs_journal.proofs.FrameLemmas.{frame_read, frame_within, frames_none, frames_push}
 use Rattle.rs_journal.proofs.reading.read_frames.Goals as goal

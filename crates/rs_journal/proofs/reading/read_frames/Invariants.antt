@@ -1,7 +1,7 @@
 use Rattle.std.proofs.Common.{◌≡◌, ◌-◌, ◌≤◌, ◌++◌, List, length, take}
 use Rattle.std.specs.List.{All}
 use Rattle.rs_message.specs.declared.entry.Operation.{Operation}
-use Rattle.rs_record.specs.Records.{IsOperation}
+use Rattle.rs_journal_record.specs.Records.{IsOperation}
 use Rattle.rs_journal.specs.Frames.{frames}
 use Rattle.rs_journal.proofs.reading.read_frames.Given as goal
 

@@ -1,5 +1,5 @@
 use Rattle.std.proofs.Common.{List, ℕ, subst}
-use Rattle.rs_field.proofs.Fields.{IsBytes}
+use Rattle.rs_packet_field.proofs.Fields.{IsBytes}
 use Rattle.rs_packet.proofs.AnswerLaws.{found, only}
 use Rattle.rs_packet.proofs.decoding.decode.Goals as goal
 

@@ -1,5 +1,5 @@
 use Rattle.std.proofs.lemmas.Result.{err_from_is_err_and}
-use Rattle.rs_field.proofs.PropertyLoop.{some_left, none_left}
+use Rattle.rs_packet_field.proofs.PropertyLoop.{some_left, none_left}
 use Rattle.rs_packet.proofs.ItemLoop.{begins, more, fails, done}
 use Rattle.rs_packet.proofs.filters.all_items.Goals as goal
 

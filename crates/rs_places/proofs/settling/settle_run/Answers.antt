@@ -1,6 +1,6 @@
 use Rattle.std.proofs.Common.{List, ap, subst, sym, ◌∙◌}
 use Rattle.rs_intake.specs.Settling.{AreTaken, AreTakenInOrder, EachOnce, sent_in_all}
-use Rattle.rs_queue.specs.Ends.{Closed}
+use Rattle.rs_intake_queue.specs.Ends.{Closed}
 use Rattle.rs_places.proofs.settling.settle_run.Goals as goal
 use Rattle.rs_places.proofs.settling.settle_run.Goals.{in-Ok, in-Err}
 

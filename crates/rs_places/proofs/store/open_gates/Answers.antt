@@ -2,7 +2,7 @@ use Rattle.std.proofs.Common.{◌≡◌, ◌∙◌, List, length, map, ap, sym, 
 use Rattle.std.specs.Prelude.{Some, slice_get}
 use Rattle.std.proofs.lemmas.Result.{IfOk-weaker}
 use Rattle.std.proofs.lemmas.List.Elements.{recursion_from_All}
-use Rattle.rs_line.specs.Lines.{Line}
+use Rattle.rs_intake_line.specs.Lines.{Line}
 use Rattle.rs_message.specs.declared.entry.Entry.{Entry}
 use Rattle.rs_places.specs.Gates.{handed_on}
 use Rattle.rs_places.proofs.Whole.{first_is, gates_known}

@@ -3,16 +3,16 @@ use denote.Param.Send.{arg_send, param_send}
 use denote.Param.{copied, param}
 use Rattle.std.proofs.Common.{◌≡◌, ◌≤◌, ℕ, ◌-◌, ◌^◌, List, [], length, map, sym, ap, subst, ◌∙◌, arith}
 use Rattle.std.specs.Prelude.{MatchOption}
-use Rattle.rs_line.specs.Done.{IsWritten}
-use Rattle.rs_line.specs.Lines.{Line}
-use Rattle.rs_queue.specs.Ends.{Closed}
+use Rattle.rs_intake_line.specs.Done.{IsWritten}
+use Rattle.rs_intake_line.specs.Lines.{Line}
+use Rattle.rs_intake_queue.specs.Ends.{Closed}
 use Rattle.rs_intake.specs.Causes.{HaveEnded, IsCause}
 use Rattle.rs_intake.specs.declared.cause.Cause.{Cause}
 use Rattle.rs_intake.specs.Settling.{AreOfPlaces, AreTaken, EachOnce}
 use Rattle.rs_version.specs.Writer.{kept_of}
 use Rattle.rs_places.specs.Gates.{handed_on}
 use Rattle.rs_places.specs.Store.{IsSettled, IsUnsettled, new_gates}
-use Rattle.rs_turns.proofs.Places.{few_ends}
+use Rattle.rs_places_turns.proofs.Places.{few_ends}
 use Rattle.rs_places.proofs.Sent.{gate_send}
 use Rattle.rs_places.proofs.Whole.{ends_once, store_run}
 use Rattle.rs_places.proofs.store.run_named.Goals as goal

@@ -3,8 +3,8 @@ use Rattle.std.specs.List.{filter}
 use Rattle.rs_topic.specs.Topics.{levels}
 use Rattle.rs_store.specs.Contents.{found_of, is_answered}
 use Rattle.rs_topic.specs.Rests.{levels_from}
-use Rattle.rs_branch.specs.Spots.{pairs}
-use Rattle.rs_branch.specs.Chosen.{chosen_at_root}
+use Rattle.rs_tree_branch.specs.Spots.{pairs}
+use Rattle.rs_tree_branch.specs.Chosen.{chosen_at_root}
 use Rattle.rs_topic.proofs.Rests.{from_start}
 use Rattle.rs_tree.proofs.Trees.{answered}
 use Rattle.rs_store.proofs.Rooms.{some_fits, none_fits}

@@ -3,8 +3,8 @@ use Rattle.std.specs.Map.{remove_entry}
 use Rattle.std.specs.BTreeMap.{is_at}
 use Rattle.rs_topic.specs.Order.{path_cmp}
 use Rattle.rs_topic.specs.Rests.{levels_from}
-use Rattle.rs_bucket.specs.Spots.{is_there}
-use Rattle.rs_branch.specs.Spots.{pairs}
+use Rattle.rs_tree_bucket.specs.Spots.{is_there}
+use Rattle.rs_tree_branch.specs.Spots.{pairs}
 use Rattle.rs_topic.proofs.Rests.{from_start}
 use Rattle.rs_tree.proofs.Trees.{pairs_remove, placed_remove, clear_old, clear_none}
 use Rattle.rs_tree.proofs.messages.clear_one.Goals as goal

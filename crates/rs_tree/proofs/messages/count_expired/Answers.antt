@@ -1,6 +1,6 @@
 use Rattle.std.proofs.Common.{arith}
 use Rattle.std.proofs.lemmas.List.{length-map}
-use Rattle.rs_branch.specs.Spots.{pair_of}
+use Rattle.rs_tree_branch.specs.Spots.{pair_of}
 use Rattle.rs_tree.proofs.Trees.{pairs_gone}
 use Rattle.rs_tree.proofs.messages.count_expired.Goals as goal
 

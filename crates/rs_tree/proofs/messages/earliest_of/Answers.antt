@@ -1,5 +1,5 @@
 use Rattle.std.proofs.Common.{◌^◌, ◌-◌, ◌∙◌}
-use Rattle.rs_branch.proofs.Ends.{pairs_end}
+use Rattle.rs_tree_branch.proofs.Ends.{pairs_end}
 use Rattle.rs_tree.proofs.messages.earliest_of.Goals as goal
 
 pub returns : goal.returns

@@ -1,6 +1,6 @@
 use Rattle.std.proofs.Common.{◌≡◌, arith}
 use Rattle.rs_topic.specs.Rests.{levels_from}
-use Rattle.rs_bucket.specs.Spots.{is_there}
+use Rattle.rs_tree_bucket.specs.Spots.{is_there}
 use Rattle.rs_tree.proofs.Trees.{space_cleared, space_retained, space_swept}
 use Rattle.rs_tree.proofs.messages.has_space.Goals as goal
 

@@ -1,6 +1,6 @@
 use Rattle.std.proofs.Common.{ap, ◌∙◌}
 use Rattle.rs_topic.specs.Rests.{levels_from}
-use Rattle.rs_branch.specs.Spots.{pairs}
+use Rattle.rs_tree_branch.specs.Spots.{pairs}
 use Rattle.rs_topic.proofs.Rests.{from_start}
 use Rattle.rs_tree.proofs.Trees.{pairs_insert, placed_insert, set_old, set_new}
 use Rattle.rs_tree.proofs.messages.set_one.Goals as goal

@@ -1,7 +1,7 @@
 use Rattle.std.proofs.Common.{arith}
 use Rattle.rs_store.specs.Contents.{stays}
 use Rattle.rs_store.proofs.Maps.{filter_few}
-use Rattle.rs_branch.specs.Spots.{pairs}
+use Rattle.rs_tree_branch.specs.Spots.{pairs}
 use Rattle.rs_tree.proofs.Trees.{left_counted, pairs_swept, placed_swept}
 use Rattle.rs_tree.proofs.messages.sweep.Goals as goal
 

@@ -1,9 +1,9 @@
 use Rattle.std.proofs.Common.{◌≡◌, [], length, replicate, true, false}
 use Rattle.crossbeam_channel.specs.Claims.{view}
 use Rattle.crossbeam_channel.specs.Ends.{sends_on}
-use Rattle.rs_line.specs.Names.{IsQueue, IsIn}
-use Rattle.rs_line.specs.Done.{untold}
-use Rattle.rs_line.specs.Lines.{new_lines}
+use Rattle.rs_intake_line.specs.Names.{IsQueue, IsIn}
+use Rattle.rs_intake_line.specs.Done.{untold}
+use Rattle.rs_intake_line.specs.Lines.{new_lines}
 use Rattle.rs_intake.proofs.blank.BlankQueue.open.Given as goal
 
 abbrev pub invariant-loop-before : goal.invariant-loop-before

@@ -1,7 +1,7 @@
 use Rattle.std.proofs.Common.{◌≡◌, ℕ, subst, sym, ap, ◌∙◌}
 use Rattle.crossbeam_channel.specs.Claims.{view}
-use Rattle.rs_queue.specs.declared.rule.PassView.{PassView}
-use Rattle.rs_queue.specs.QueueRule.{Balances, IsOutside}
+use Rattle.rs_intake_queue.specs.declared.rule.PassView.{PassView}
+use Rattle.rs_intake_queue.specs.QueueRule.{Balances, IsOutside}
 use Rattle.rs_intake.proofs.taken.Taken.compare.Goals as goal
 
 pub returns-clause-balance : goal.returns-clause-balance

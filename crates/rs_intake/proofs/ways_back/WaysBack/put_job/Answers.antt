@@ -2,9 +2,9 @@ use Rattle.std.proofs.Common.{rules, ◌≡◌, ◌∷◌, [], ℕ, ◌-◌, ◌
 use Rattle.std.proofs.lemmas.List.{get_or_read}
 use Rattle.rs_message.specs.declared.entry.Entry.{Entry}
 use Rattle.rs_store.specs.History.{SerialsRise}
-use Rattle.rs_queue.specs.Changes.{place_of_all}
-use Rattle.rs_line.specs.Done.{AreReplied, Told, untold, way_to}
-use Rattle.rs_line.specs.Sending.{AreSentNext}
+use Rattle.rs_intake_queue.specs.Changes.{place_of_all}
+use Rattle.rs_intake_line.specs.Done.{AreReplied, Told, untold, way_to}
+use Rattle.rs_intake_line.specs.Sending.{AreSentNext}
 use Rattle.rs_intake.proofs.Done.{left_all}
 use Rattle.rs_intake.proofs.ways_back.WaysBack.put_job.Goals as goal
 

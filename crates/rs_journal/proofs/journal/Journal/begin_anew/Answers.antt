@@ -1,5 +1,5 @@
 use Rattle.std.proofs.Common.{ℕ, List, sym, subst}
-use Rattle.rs_pages.specs.Streams.{Holds}
+use Rattle.rs_journal_pages.specs.Streams.{Holds}
 use Rattle.rs_journal.specs.Frames.{frames}
 use Rattle.rs_journal.proofs.FrameLemmas.{frames_none}
 use Rattle.rs_journal.proofs.journal.Journal.begin_anew.Goals as goal

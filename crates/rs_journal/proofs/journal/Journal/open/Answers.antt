@@ -1,8 +1,8 @@
 use Rattle.std.proofs.Common.{ℕ, List, map, subst}
-use Rattle.rs_pages.specs.Images.{StandsFor}
-use Rattle.rs_pages.specs.Streams.{image, may_leave}
-use Rattle.rs_pages.proofs.StandsLemmas.{rests_like}
-use Rattle.rs_pages.proofs.CrashLemmas.{each_at_rest}
+use Rattle.rs_journal_pages.specs.Images.{StandsFor}
+use Rattle.rs_journal_pages.specs.Streams.{image, may_leave}
+use Rattle.rs_journal_pages.proofs.StandsLemmas.{rests_like}
+use Rattle.rs_journal_pages.proofs.CrashLemmas.{each_at_rest}
 use Rattle.rs_journal.specs.Frames.{frames}
 use Rattle.rs_journal.proofs.FrameLemmas.{each_from_mapped, each_mapped}
 use Rattle.rs_journal.proofs.journal.Journal.open.Goals as goal

@@ -1,5 +1,5 @@
 use Rattle.sqlite_wal.proofs.StateLemmas.{AddsNothing-trans}
-use Rattle.rs_pages.specs.Streams.{may_leave}
+use Rattle.rs_journal_pages.specs.Streams.{may_leave}
 use Rattle.rs_journal.specs.Frames.{frames}
 use Rattle.rs_journal.proofs.journal.Journal.push.Goals as goal
 

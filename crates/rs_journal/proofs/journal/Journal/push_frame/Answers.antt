@@ -1,9 +1,9 @@
 use Rattle.std.proofs.Common.{◌≡◌, ◌++◌, ℕ, List, length, ap, subst, ◌∙◌, arith}
 use Rattle.std.specs.Int.{w32, to_be_bytes}
-use Rattle.rs_record.specs.Records.{record_form}
+use Rattle.rs_journal_record.specs.Records.{record_form}
 use Rattle.sqlite_wal.proofs.StateLemmas.{AddsNothing-fewer, AddsNothing-trans}
-use Rattle.rs_pages.specs.Streams.{Holds, may_leave}
-use Rattle.rs_pages.proofs.StandsLemmas.{stands_if_rests, stands_of}
+use Rattle.rs_journal_pages.specs.Streams.{Holds, may_leave}
+use Rattle.rs_journal_pages.proofs.StandsLemmas.{stands_if_rests, stands_of}
 use Rattle.rs_journal.specs.Frames.{frames}
 use Rattle.rs_journal.proofs.FrameLemmas.{frame_pushed}
 use Rattle.rs_journal.proofs.journal.Journal.push_frame.Goals as goal

@@ -1,5 +1,5 @@
 use Rattle.std.proofs.Common.{sym}
-use Rattle.rs_pages.proofs.StandsLemmas.{stands_of}
+use Rattle.rs_journal_pages.proofs.StandsLemmas.{stands_of}
 use Rattle.rs_journal.specs.Frames.{frames}
 use Rattle.rs_journal.proofs.FrameLemmas.{one_list}
 use Rattle.rs_journal.proofs.journal.Journal.read_again.Goals as goal

@@ -5,11 +5,11 @@ use Rattle.std.proofs.lemmas.List.{append-nil, nil_from_length}
 use Rattle.std.proofs.lemmas.List.Elements.{All-append, All-nil}
 use Rattle.sqlite_wal.proofs.StateLemmas.{open_from}
 use Rattle.sqlite_pager.specs.Pager.{state, visible}
-use Rattle.rs_pages.specs.Streams.{front, part_at}
-use Rattle.rs_pages.proofs.StandsLemmas.{all_parts}
-use Rattle.rs_pages.proofs.StreamLemmas.{joined_more}
+use Rattle.rs_journal_pages.specs.Streams.{front, part_at}
+use Rattle.rs_journal_pages.proofs.StandsLemmas.{all_parts}
+use Rattle.rs_journal_pages.proofs.StreamLemmas.{joined_more}
 use Rattle.rs_message.specs.declared.entry.Operation.{Operation}
-use Rattle.rs_record.specs.Records.{IsOperation}
+use Rattle.rs_journal_record.specs.Records.{IsOperation}
 use Rattle.rs_journal.specs.Frames.{frames}
 use Rattle.rs_journal.proofs.FrameLemmas.{all_read, frames_none, page_read}
 use Rattle.rs_journal.proofs.journal.Journal.read_stream.Goals as goal

@@ -1,8 +1,8 @@
 use Rattle.std.proofs.Common.{◌≡◌, ◌++◌, ℕ, List}
 use Rattle.std.specs.List.{All}
 use Rattle.rs_message.specs.declared.entry.Operation.{Operation}
-use Rattle.rs_pages.specs.Streams.{Rests, front}
-use Rattle.rs_record.specs.Records.{IsOperation}
+use Rattle.rs_journal_pages.specs.Streams.{Rests, front}
+use Rattle.rs_journal_record.specs.Records.{IsOperation}
 use Rattle.rs_journal.specs.Frames.{frames}
 use Rattle.rs_journal.specs.Journals.{IsClean, IsOpen}
 use Rattle.rs_journal.proofs.journal.Journal.read_stream.Given as goal

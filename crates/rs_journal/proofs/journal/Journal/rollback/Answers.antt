@@ -1,4 +1,4 @@
-use Rattle.rs_pages.proofs.StandsLemmas.{stands_of}
+use Rattle.rs_journal_pages.proofs.StandsLemmas.{stands_of}
 use Rattle.rs_journal.specs.Frames.{frames}
 use Rattle.rs_journal.proofs.journal.Journal.rollback.Goals as goal
 

@@ -1,8 +1,8 @@
 use Rattle.std.proofs.Common.{arith, length}
 use Rattle.std.specs.List.{flat_map}
 use Rattle.std.proofs.Common.{refl}
-use Rattle.rs_property.specs.Properties.{property_bytes}
-use Rattle.rs_property.specs.Carried.{replayed}
+use Rattle.rs_packet_property.specs.Properties.{property_bytes}
+use Rattle.rs_packet_property.specs.Carried.{replayed}
 use Rattle.rs_message.specs.Sizes.{level}
 use Rattle.rs_packet.proofs.Lengths.{remaining_parts, length_publish}
 use Rattle.rs_packet.proofs.encoding.publish.publish_len.Goals as goal

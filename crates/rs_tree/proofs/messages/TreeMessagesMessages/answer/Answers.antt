@@ -1,7 +1,7 @@
 use Rattle.std.proofs.Common.{◌≡◌, ◌≤◌, length, map, arith, None}
 use Rattle.std.specs.List.{filter}
 use Rattle.rs_store.specs.Contents.{found_of, if_fits, is_answered}
-use Rattle.rs_branch.specs.Spots.{pairs}
+use Rattle.rs_tree_branch.specs.Spots.{pairs}
 use Rattle.rs_store.proofs.Rooms.{always_fits}
 use Rattle.rs_tree.proofs.messages.TreeMessagesMessages.answer.Goals as goal
 

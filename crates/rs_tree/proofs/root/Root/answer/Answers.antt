@@ -1,7 +1,7 @@
-use Rattle.rs_branch.specs.Chosen.{chosen_at_root}
+use Rattle.rs_tree_branch.specs.Chosen.{chosen_at_root}
 use Rattle.rs_topic.specs.Rests.{levels_from}
-use Rattle.rs_bucket.specs.Answers.{Gives}
-use Rattle.rs_branch.proofs.Choosing.{gives_done, gives_room, gives_why}
+use Rattle.rs_tree_bucket.specs.Answers.{Gives}
+use Rattle.rs_tree_branch.proofs.Choosing.{gives_done, gives_room, gives_why}
 use Rattle.rs_tree.proofs.root.Root.answer.Goals as goal
 
 pub returns-clause-done : goal.returns-clause-done

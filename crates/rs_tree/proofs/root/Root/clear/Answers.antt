@@ -1,8 +1,8 @@
 use Rattle.std.proofs.Common.{sym, ◌∙◌}
 use Rattle.rs_topic.specs.Rests.{levels_from}
-use Rattle.rs_bucket.specs.Clearing.{ClearsAs}
-use Rattle.rs_bucket.specs.declared.cleared.Cleared.TheVariants.{Missing}
-use Rattle.rs_branch.proofs.Clearing.{none_removed}
+use Rattle.rs_tree_bucket.specs.Clearing.{ClearsAs}
+use Rattle.rs_tree_bucket.specs.declared.cleared.Cleared.TheVariants.{Missing}
+use Rattle.rs_tree_branch.proofs.Clearing.{none_removed}
 use Rattle.rs_tree.proofs.root.Root.clear.Goals as goal
 
 pub returns-in-Ok-Missing-clause-done : goal.returns-in-Ok-Missing-clause-done

@@ -1,6 +1,0 @@
-use Rattle.std.proofs.Common.{◌≡◌, ◌*◌, ◌<◌, ◌^◌, take}
-use Rattle.rs_bucket.specs.Keys.{spelt}
-use Rattle.rs_bucket.proofs.key.Key.of_level.Given as goal
-
-abbrev pub invariant-loop-byte : goal.invariant-loop-byte
-invariant-loop-byte l = (l.number ≡ spelt 0 (take l.byte-index l.level)) × (l.number < 2 ^ (8 * l.byte-index))

@@ -1,5 +1,0 @@
-use Rattle.std.proofs.Common.{arith}
-use Rattle.rs_field.proofs.properties.note_octets.Goals as goal
-
-pub returns : goal.returns
-returns c i = omega (arith, c.type_inv.bytes i)

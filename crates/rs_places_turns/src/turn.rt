@@ -1,0 +1,87 @@
+//! What gives a place its connections.
+
+ghost use Rattle.std.specs.Prelude.{ℕ, List};
+ghost use Rattle.std.specs.Option.{option_map};
+ghost use Rattle.rs_message.specs.declared.entry.Entry.{Entry};
+ghost use Rattle.rs_server.specs.Counts.{failures_of, inner_of};
+ghost use Rattle.rs_places_turns.specs.Ended.{HasEnded, ending_of};
+ghost use Rattle.rs_places_turns.specs.Turns.{GivesNext, TakesBack};
+
+use crate::ended::EndedConnection;
+use rs_server::Clock;
+use rs_version::{StoreName, Told};
+use std::io::{Read, Write};
+
+/// A connection: what its client sends, what it is sent, and its clock.
+#[derive(Drop)]
+pub struct Connection<R, W, C> {
+    /// Reads what the client sends.
+    pub input: R,
+    /// Writes what the client is sent.
+    pub output: W,
+    /// Tells the time. It is asked once for each packet.
+    pub clock: C,
+}
+
+/// Gives a place its connections, one after the other, and takes them back once they have ended.
+///
+/// The parts of a connection own what they need, since threads take them. A turn over given connections, as those of a
+/// test are, says which by its `connections`; one over sockets says nothing, and promises nothing.
+pub trait Turn {
+    ghost use Rattle.rs_places_turns.specs.Turns.{Connections, none_given};
+
+    /// Reads what the client sends.
+    type In: Read + Drop;
+
+    /// Writes what the client is sent.
+    type Out: Write + Drop;
+
+    /// Tells the time, in whole seconds.
+    type Time: Clock + Drop;
+
+    /// What contracts see of its connections. Nothing, if the type does not say.
+    ghost connections: { Self → Connections } = { λ _. none_given };
+
+    /// The next connection of the place. `None` if there are no more; then it is not asked again.
+    fn next(&mut self) -> Option<Connection<Self::In, Self::Out, Self::Time>>
+        ensures { GivesNext (connections self.old)
+            (option_map (λ c. record {
+              unread = Self.In.remaining c.input;
+              written = Self.Out.contents c.output;
+              moments = Self.Time.moments c.clock;
+            }) result) (connections self.new) };
+
+    /// Takes back a connection that was served and has ended.
+    ///
+    /// Whoever calls it owes what is known of a connection at its end (`HasEnded`), also in a run that never ends: it ended as a session does
+    /// that was served under its number.
+    fn end(&mut self, ended: EndedConnection<Self::In, Self::Out, Self::Time>)
+        requires { (limit : ℕ) × (told : List Entry) × HasEnded limit ended.place ended.number
+            (ending_of (Self.In.remaining (inner_of ended.connection.input)) (Self.Out.contents (inner_of ended.connection.output))
+            (Self.Time.moments ended.connection.clock) (failures_of ended.connection.input) (failures_of ended.connection.output) ended.served)
+            told }
+        ensures { TakesBack (connections self.old)
+            (ending_of (Self.In.remaining (inner_of ended.connection.input)) (Self.Out.contents (inner_of ended.connection.output))
+            (Self.Time.moments ended.connection.clock) (failures_of ended.connection.input) (failures_of ended.connection.output) ended.served)
+            (connections self.new) };
+}
+
+/// What is left of a place whose connections were served.
+#[derive(Drop)]
+pub struct PlaceEnd<N: StoreName, L, T> {
+    /// What is left of its line.
+    pub line: L,
+    /// A token of the list that its gate knew last.
+    pub told: Told<N>,
+    /// The turn, which took its connections back.
+    pub turn: T,
+}
+
+/// What is left of all places.
+#[derive(Drop)]
+pub struct PlacesEnd<N: StoreName, L, T> {
+    /// What is left of each place, in their order.
+    pub ends: Vec<PlaceEnd<N, L, T>>,
+    /// How many threads, or lanes with threads, there were for them.
+    pub threads: usize,
+}

@@ -1,5 +1,0 @@
-use Rattle.std.proofs.Common.{arith}
-use Rattle.rs_queue.proofs.preparing.number_entries.Goals as goal
-
-pub returns-clause-small : goal.returns-clause-small
-returns-clause-small c = omega (arith, c.loop-operation.invariant.0, c.loop-operation.invariant.2)

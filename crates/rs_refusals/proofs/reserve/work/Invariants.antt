@@ -1,5 +1,0 @@
-use Rattle.rs_refusals.proofs.reserve.work.Given as goal
-
--- the store that was just made
-abbrev pub ghosts-tried : goal.ghosts-tried
-ghosts-tried g a = record { history = a.blank.history; limit = a.blank.limit }

@@ -1,5 +1,0 @@
-use Rattle.rs_sockets.proofs.Sharings.{takes}
-use Rattle.rs_sockets.proofs.splitting.finish.Goals as goal
-
-pub try_pop_as-requires-clause-rule : goal.try_pop_as-requires-clause-rule
-try_pop_as-requires-clause-rule g c = takes _ _ _

@@ -1,6 +1,0 @@
-use Rattle.rs_steps.specs.Ends.{begun_in}
-use Rattle.rs_steps.proofs.EndCells.{takes}
-use Rattle.rs_steps.proofs.end_cell.ClientEnd.take.Goals as goal
-
-pub try_pop_as-requires-clause-rule : goal.try_pop_as-requires-clause-rule
-try_pop_as-requires-clause-rule g c = takes begun_in _ _

@@ -1,7 +1,0 @@
-use Rattle.std.proofs.Common.{ap, ◌∙◌}
-use Rattle.rs_turns.specs.Shared.{SharedValue}
-use Rattle.rs_turns.specs.Visits.{place_at}
-use Rattle.rs_steps.proofs.run.make_task.Goals as goal
-
-pub returns : goal.returns
-returns g c = c.in_ok-end.ensures.takes ∙ ap (λ (gate : SharedValue). place_at (g.T.Turn.connections c.args.turn) gate) c.into_gate-gate.ensures.gate

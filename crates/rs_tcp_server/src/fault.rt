@@ -1,0 +1,47 @@
+//! Why no client is served.
+
+use rs_places_turns::StoreFault;
+use std::alloc::AllocError;
+use std::io;
+use std::io::ErrorKind;
+use thiserror::Error;
+
+/// Why a [`Server`](crate::Server) serves no client.
+#[derive(Debug, Drop, Error)]
+pub enum ListenFault {
+    /// The address is not an address, is in use, or may not be bound, or descriptors to watch clients were refused.
+    #[error("the address cannot be listened on: {0}")]
+    Address(io::Error),
+    /// Memory was refused.
+    #[error("out of memory")]
+    NoMemory,
+    /// The thread of the store's writer, or that of the first client, cannot be started.
+    #[error("no thread can be started")]
+    NoThread,
+}
+
+impl From<AllocError> for ListenFault {
+    fn from(_: AllocError) -> ListenFault {
+        ListenFault::NoMemory
+    }
+}
+
+/// Why the system refused the address, or descriptors.
+impl From<io::Error> for ListenFault {
+    fn from(error: io::Error) -> ListenFault {
+        if error.kind() == ErrorKind::OutOfMemory {
+            ListenFault::NoMemory
+        } else {
+            ListenFault::Address(error)
+        }
+    }
+}
+
+impl From<StoreFault> for ListenFault {
+    fn from(fault: StoreFault) -> ListenFault {
+        match fault {
+            StoreFault::NoMemory => ListenFault::NoMemory,
+            StoreFault::NoThread => ListenFault::NoThread,
+        }
+    }
+}

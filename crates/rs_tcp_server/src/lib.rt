@@ -1,0 +1,19 @@
+//! A server of retained messages: many clients by TCP, over one store.
+//!
+//! [`Server::bind`] binds an address and makes an empty store, [`Server::address`] tells the address, and [`Server::run`] serves
+//! clients until so many have connected. Each client has a line of its own to the store's writer, which has a thread. With as many clients
+//! as places, each client has a thread too. With more, each place has two, and `rs_tcp_watch` tells which clients have something to do. A
+//! connection may have a limit for how long it is idle, and the log of the handle has a line when each begins and ends, and when the store is
+//! full.
+//!
+//! How clients are served is `run_places` of `rs_places_steps`, and the run of the store is `run_store` of `rs_places`. `rs_tcp_turns` has the
+//! connections. The contracts of this crate do not say what a socket gives or takes, that a thread runs, or that a call returns.
+#![tactic(auto)]
+
+mod fault;
+mod opening;
+mod polling;
+mod server;
+
+pub use fault::ListenFault;
+pub use server::{Server, Summary};

@@ -1,0 +1,36 @@
+//! What each client gets.
+
+ghost use Rattle.std.specs.Prelude.{◌≡◌, IfOk, length};
+
+use log::Log;
+use rs_message::LineCount;
+use rs_tcp_sockets::Listener;
+use rs_tcp_turns::{ClientWord, FullLog, ListenTurn};
+use std::alloc::{AllocError, Global};
+use std::sync::Arc;
+use std::time::Clock;
+
+/// A turn for each client, the first of line 1, and so on. They share the listener and what the log is told of the store. The log calls a
+/// client by this word.
+pub(crate) fn turns<H: Clock + Log + Copy>(
+    rt: H,
+    alloc: Global,
+    listener: Arc<Listener>,
+    full: FullLog,
+    lines: LineCount,
+    word: ClientWord,
+) -> Result<Vec<ListenTurn<H>>, AllocError>
+    ensures { IfOk result (λ turns. length turns.items ≡ lines) }
+{
+    let full = Arc::new(alloc, full).map_err(|_| AllocError)?;
+    let count = lines.get();
+    let mut turns = Vec::new(alloc);
+    for before in 0..count {
+        let listener = Arc::try_clone(&listener)?;
+        let full = Arc::try_clone(&full)?;
+        turns
+            .push(ListenTurn::new(rt, alloc, listener, full, word, before + 1))
+            .map_err(|_| AllocError)?;
+    }
+    Ok(turns)
+}
