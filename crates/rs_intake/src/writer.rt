@@ -126,7 +126,8 @@ fn replies_at_once(patience: &Patience) -> usize
 /// A writer at its queue. It takes one job at a time. Contracts see what it published and holds, what it took, what it sent by the ways back,
 /// and how many entries it took and refused.
 ///
-/// At every moment what it keeps came to be by the outcomes of just what it took, and the lines were told these outcomes (`IsUnderWay`).
+/// At every moment what it keeps came to be by the outcomes of just what it took, and these outcomes were sent to the lines, unless a send
+/// failed (`IsUnderWay`).
 #[derive(Drop)]
 pub struct JobWriter<N: LineName, R: Wait + Drop> {
     writer: VersionWriter<N, R>,

@@ -311,7 +311,8 @@ impl<N: LineName> SeatLine<N> {
     ///
     /// # Errors
     ///
-    /// [`Gone`] if the writer is, and fewer came. Those that came are dropped, and the line is handed on all the same.
+    /// [`Gone`] if a receive failed before that, as it does once the writer is gone. Those that came are dropped, and the line is handed on all the
+    /// same.
     pub fn hand_on<R: Wait>(&mut self, rt: &R) -> Result<(), Gone>
         ensures place { self.new.place ≡ self.old.place }
         ensures serial { self.new.serial ≡ self.old.serial + length self.old.ahead }

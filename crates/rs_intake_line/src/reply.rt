@@ -430,7 +430,7 @@ impl<N: StoreName> ReplyReceiver<N> {
     ///
     /// # Errors
     ///
-    /// [`Gone`] if the writer is, and no message is left.
+    /// [`Gone`] if the receive failed, as it does once the writer is gone and no message is left.
     fn wait_message<R: Wait>(&mut self, rt: &R) -> Result<(), Gone>
         requires { self.old.came ≡ [] }
         ensures heard { self.new.heard ≡ self.old.heard }
@@ -450,7 +450,7 @@ impl<N: StoreName> ReplyReceiver<N> {
     ///
     /// # Errors
     ///
-    /// [`Gone`] if the writer is, and no reply is left.
+    /// [`Gone`] if the receive failed, as it does once the writer is gone and no reply is left.
     pub fn wait<R: Wait>(&mut self, rt: &R) -> Result<WriterReply<N>, Gone>
         ensures heard { MatchResult result (λ reply. self.new.heard ≡ self.old.heard ++ reply ∷ [])
             (λ _. (self.old.came ≡ []) × (self.new.heard ≡ self.old.heard)) }
@@ -481,7 +481,7 @@ impl<N: StoreName> ReplyReceiver<N> {
     ///
     /// # Errors
     ///
-    /// [`Gone`] if the writer is, and fewer are left. Those are dropped.
+    /// [`Gone`] if a receive failed, as it does once the writer is gone and fewer are left. Those are dropped.
     fn wait_for<R: Wait>(&mut self, rt: &R, count: usize) -> Result<(), Gone>
         ensures heard { (more : List ReplyValue) × (self.new.heard ++ self.new.came ≡ self.old.heard ++ self.old.came ++ more) }
         ensures waited { IfOk result (λ _. length self.new.heard ≡ length self.old.heard + count) }
@@ -497,7 +497,7 @@ impl<N: StoreName> ReplyReceiver<N> {
     ///
     /// # Errors
     ///
-    /// [`Gone`] if the writer is, and fewer are left. Those are dropped.
+    /// [`Gone`] if a receive failed, as it does once the writer is gone and fewer are left. Those are dropped.
     pub fn drop_next<R: Wait>(&mut self, rt: &R, count: usize) -> Result<(), Gone>
         ensures heard { (more : List ReplyValue) × (self.new.heard ≡ self.old.heard ++ self.old.came ++ more) }
         ensures came { self.new.came ≡ [] }

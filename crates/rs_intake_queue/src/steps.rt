@@ -30,7 +30,7 @@ pub fn send<R: Wait>(
     waiting::send::<Job, PassView, QueueRule, Sending, R>(rt, to, pass, job)
 }
 
-/// Takes the oldest job. `Gone` if all lines and their ends are.
+/// Takes the oldest job. [`Gone`] if the receive failed, as it does once all lines and their ends are gone.
 pub fn take<R: Wait>(
     rt: &R,
     from: &JobReceiver,

@@ -1,5 +1,5 @@
 //! The replay of retained messages to one client: packet identifiers, the quota, and what waits to be sent (OASIS MQTT
-//! Version 5.0, sections 4.3, 4.4, 4.6 and 4.9). docs/WINDOW.md has the rules in words.
+//! Version 5.0, sections 4.3, 4.4, 4.6 and 4.9). docs/SESSION.md has the rules in words.
 //!
 //! [`Window::queue`] appends messages to what waits, [`Window::next`] gives the first that is to be sent at a given time, and the
 //! acknowledgements give identifiers back. [`Inbound`] has those of QoS 2 packets that were received, in use until they are released.
