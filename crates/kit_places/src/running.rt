@@ -3,7 +3,7 @@
 use crate::rows::{Row, put_rows, scripts};
 use crate::script::Counts;
 use kit_version::blank_store;
-use rs_intake::blank_queue;
+use rs_intake::{Cause, blank_queue};
 use rs_message::{LineCount, MAX_LINES, PlaceCount};
 use rs_places::{StoreEnd, run_store};
 use rs_places_pool::{NoWatch, Runner, Watch};
@@ -24,6 +24,8 @@ pub struct Played {
     /// How many jobs were settled.
     pub changes: Option<u64>,
     pub version: u64,
+    /// Whether the writer ended because each client had.
+    pub is_whole: bool,
 }
 
 /// What comes of a run if there were so many threads, each connection went as it had to, and all was settled.
@@ -33,6 +35,7 @@ pub fn as_wanted(threads: usize, right: u64, changes: u64, version: u64) -> Play
         right,
         changes: Some(changes),
         version,
+        is_whole: true,
     }
 }
 
@@ -43,6 +46,7 @@ pub fn outcome<T>(end: &StoreEnd<T>, counts: &Counts) -> Played {
         right: counts.right.load(Ordering::SeqCst),
         changes: end.changes,
         version: end.version,
+        is_whole: matches!(end.cause, Cause::AllEnded),
     }
 }
 

@@ -8,6 +8,7 @@ use kit_server::ServeResult;
 use kit_test::{Behavior, CONNACK, FaultyStream, is_concat};
 use rs_places_turns::{Connection, EndedConnection, Turn};
 use rs_server::{Clock, ServeFault, Served};
+use rs_version::StoreName;
 use std::alloc::{AllocError, Global};
 use std::collections::VecDeque;
 use std::io;
@@ -161,6 +162,8 @@ pub struct Script {
     place: u16,
     /// How many it has given.
     given: u64,
+    /// How many entries there were when its last connection had ended.
+    version: u64,
     waiting: VecDeque<ScriptConnection>,
 }
 
@@ -181,6 +184,7 @@ impl Script {
             counts,
             place,
             given: 0,
+            version: 0,
             waiting: VecDeque::new(alloc),
         }
     }
@@ -250,7 +254,7 @@ impl Turn for Script {
         })
     }
 
-    fn end(&mut self, ended: EndedConnection<Input, Output, ScriptClock>)
+    fn end<N: StoreName>(&mut self, ended: EndedConnection<N, Input, Output, ScriptClock>)
         ensures { TakesBack none_given
             (ending_of (⟦<Input as Read>⟧.remaining (inner_of ended.connection.input)) (⟦<Output as Write>⟧.contents (inner_of ended.connection.output))
             (⟦<ScriptClock as Clock>⟧.moments ended.connection.clock) (failures_of ended.connection.input) (failures_of ended.connection.output) ended.served)
@@ -262,11 +266,14 @@ impl Turn for Script {
             tally: _,
             place,
             number,
+            told,
         } = ended;
         let (reads, writes) = (connection.input.failures(), connection.output.failures());
         let is_own = place == self.place && number == self.given && is_cause(served, reads, writes);
+        let is_older = told.version() < self.version;
+        self.version = told.version();
         let output = connection.output.into_inner();
-        if is_own && output.is_right(served) && !connection.clock.is_alone {
+        if is_own && !is_older && output.is_right(served) && !connection.clock.is_alone {
             self.counts.right.fetch_add(1, Ordering::SeqCst);
         }
         if output.is_closed(served) {

@@ -54,6 +54,18 @@ all_ended places ends are count =
     let all : length ends ≡ sum_to places f = ends_by_places places ends (λ place out. (are place).1 out) in
     each_one places f (λ p. (are p).0) (sym all ∙ count)
 
+sum_ones : (n : ℕ) (f : ℕ → ℕ) → ((p : ℕ) → 0 < p → p ≤ n → f p ≡ 1) → sum_to n f ≡ n
+sum_ones zero f ones = refl
+sum_ones (suc n) f ones =
+    let rest = sum_ones n f (λ p low high. ones p low (omega (arith, high))) in
+    let last = ones (suc n) (omega arith) (omega arith) in
+    omega (arith, rest, last)
+
+pub none_to_end : (places : ℕ) (ends : List ℕ) → AreEnds places ends → HaveEnded places ends → length ends ≡ places
+none_to_end places ends are ended =
+    let f : ℕ → ℕ = λ p. length (at_place p ends) in
+    ends_by_places places ends (λ place out. (are place).1 out) ∙ sum_ones places f ended
+
 -- the place of changes that are of places which have a line
 pub placed_first : (places : ℕ) (es : List Entry) → AllByRecursion (λ (e : Entry). ¬ IsOutside places e.origin.place) es → place_of_all es ≤ places
 placed_first places [] there = omega arith

@@ -98,6 +98,13 @@ ended_cause places most received result is ended = subst (λ (o : Option Cause).
 pub no_cause : (places most : ℕ) (received : Received) (result : Option Cause) → result ≡ None → IfSome result (λ cause. IsCause places most received cause)
 no_cause places most received result is = subst (λ (o : Option Cause). IfSome o (λ cause. IsCause places most received cause)) (sym is) tt
 
+-- if a job may come after, each place has ended only if each had
+pub last_end : (places : ℕ) (before after : List ℕ) (result : Option Cause) → result ≡ Some AllEnded → IfNone result (HaveEnded places after → HaveEnded places before)
+last_end places before after result is = subst (λ (o : Option Cause). IfNone o (HaveEnded places after → HaveEnded places before)) (sym is) tt
+
+pub more_to_end : (places : ℕ) (before after : List ℕ) (result : Option Cause) → result ≡ None → (HaveEnded places after → HaveEnded places before) → IfNone result (HaveEnded places after → HaveEnded places before)
+more_to_end places before after result is more = subst (λ (o : Option Cause). IfNone o (HaveEnded places after → HaveEnded places before)) (sym is) more
+
 -- the same by the job
 pub job_put : (limit places : ℕ) (v w : WriterValue) (job : Job) (changes : List Entry) (len count : ℕ) → job ≡ Put changes → w.received.entries ≡ v.received.entries ++ entries_in job → IsPlaced places job → AreOfOneJob changes
     → (replies : List ReplyValue) → AreReplied limit v.writer changes replies count w.writer → AreSentTo (place_of_all changes) v.ways replies w.ways → len ≡ length changes → w.taken ≡ v.taken + len → w.refused ≡ v.refused + count

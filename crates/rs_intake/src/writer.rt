@@ -1,11 +1,11 @@
 //! The writer's loop over the queue.
 
-ghost use Rattle.std.specs.Prelude.{◌≡◌, ◌+◌, ◌<◌, ◌≤◌, ◌^◌, ◌⊎◌, [], length, replicate, IfSome, MatchBool, Some};
+ghost use Rattle.std.specs.Prelude.{◌≡◌, ◌+◌, ◌<◌, ◌≤◌, ◌^◌, ◌⊎◌, [], length, replicate, IfNone, IfSome, MatchBool, Some};
 ghost use Rattle.std.specs.Option.{option_map};
 ghost use Rattle.crossbeam_channel.specs.Ends.{receives_on};
 ghost use Rattle.rs_version.specs.Writer.{kept_of};
 ghost use Rattle.rs_intake_line.specs.Done.{IsWritten, untold};
-ghost use Rattle.rs_intake.specs.Causes.{IsCause};
+ghost use Rattle.rs_intake.specs.Causes.{HaveEnded, IsCause};
 ghost use Rattle.rs_intake.specs.declared.cause.Cause.TheVariants.{MostTaken};
 ghost use Rattle.rs_intake_line.specs.Names.{IsQueue};
 ghost use Rattle.rs_intake_queue.specs.Parts.{IsPart};
@@ -201,6 +201,7 @@ impl<N: LineName, R: Wait + Drop> JobWriter<N, R> {
     pub fn step<W: Wait>(&mut self, rt: &W, most: u64) -> Option<Cause>
         ensures step { IsStepBefore N.limit N.places result self.old self.new }
         ensures cause { IfSome result (λ cause. IsCause N.places most self.new.received cause) }
+        ensures more { IfNone result (HaveEnded N.places self.new.received.ends → HaveEnded N.places self.old.received.ends) }
         ensures most { most ≤ self.old.taken → result ≡ Some MostTaken }
         ensures under_way { IsUnderWay N.limit N.places self.new }
     {

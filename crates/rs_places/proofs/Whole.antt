@@ -10,6 +10,7 @@ use Rattle.rs_store.specs.History.{IsLegal}
 use Rattle.rs_version.specs.Writer.{Written, kept_of}
 use Rattle.rs_intake_line.specs.Lines.{Line, Received, new_line, new_lines}
 use Rattle.rs_intake_queue.specs.Ends.{Closed}
+use Rattle.rs_intake_queue.specs.declared.job.TheConstants.{MAX_CHANGES}
 use Rattle.rs_intake_queue.specs.Parts.{IsPart}
 use Rattle.rs_intake_queue.specs.QueueRule.{of_place}
 use Rattle.rs_intake_line.specs.Done.{IsWritten, Outcome, Told, is_refused, not_refused}
@@ -102,7 +103,9 @@ writer_run limit places version w entries ways written legal placed version_is =
 end_of_run : (places : ℕ) (received : Received) (cause : Cause) (lines : List Closed) → IsCause places (2 ^ 64 - 1) received cause
     → (HaveEnded places received.ends → AreTaken received.entries lines) → IsEndOfRun received.entries lines cause
 end_of_run places received AllEnded lines is taken = taken is
-end_of_run places received MostTaken lines is taken = is
+end_of_run places received MostTaken lines is taken =
+    let C : Type 0 = 2 ^ 64 ≤ length received.entries + MAX_CHANGES in
+    ⊎_elim (λ (most : 2 ^ 64 - 1 ≤ length received.entries). let fits : C = omega (arith, most) in fits) (λ (most : C). most) is
 end_of_run places received (QueueGone gone) lines is taken = is
 
 pub line_of : (history entries : List Entry) (line : Closed) → IsPart (without_sweeps history) entries → Extends line.sent (of_place line.place entries) → IsLineOf history entries line

@@ -1,5 +1,5 @@
 -- A whole run of a store: its clients, each with a line of its own, whose number is its place, and the one history that they all saw.
-use Rattle.std.specs.Prelude.{◌≡◌, ℕ, ◌+◌, ◌-◌, ◌^◌, ◌≤◌, ◌⊎◌, List, [], ◌∷◌, ◌++◌, length, map, Option, MatchOption}
+use Rattle.std.specs.Prelude.{◌≡◌, ℕ, ◌+◌, ◌^◌, ◌≤◌, List, [], ◌∷◌, ◌++◌, length, map, Option, MatchOption}
 use Rattle.std.specs.List.{AllZip}
 use Rattle.rs_message.specs.declared.entry.Entry.{Entry}
 use Rattle.rs_store.specs.History.{IsLegal}
@@ -66,11 +66,11 @@ pub record IsSettled (places : ℕ) (entries : List Entry) (lines : List Closed)
 abbrev pub IsUnsettled : List Entry → List Closed → Type 0
 IsUnsettled entries lines = ¬ (sent_in_all lines ≡ length entries)
 
--- Why the writer ended that took these entries of what these lines sent: it took the End of each line, and so all that they sent; or as many
--- as it can count, or fewer than one job more; or a receive failed, of which no more is known
+-- Why the writer ended that took these entries of what these lines sent: it took the End of each line, and so all that they sent; or so
+-- many that one more job could have more than it can count; or a receive failed, of which no more is known
 abbrev pub IsEndOfRun : List Entry → List Closed → Cause → Type 0
 IsEndOfRun taken lines AllEnded = AreTaken taken lines
-IsEndOfRun taken lines MostTaken = (2 ^ 64 - 1 ≤ length taken) ⊎ (2 ^ 64 ≤ length taken + MAX_CHANGES)
+IsEndOfRun taken lines MostTaken = 2 ^ 64 ≤ length taken + MAX_CHANGES
 IsEndOfRun taken lines (QueueGone gone) = Unit {0}
 
 -- The writer of a run over so many places published so many entries.
@@ -95,8 +95,8 @@ pub record IsWriterRun (limit places version : ℕ) : Type 0 where
   pub not_refused_of : (place : ℕ) → of_place place (without_sweeps history) ≡ of_place place (not_refused taken outcomes)
 
 -- A store of so many new places was run, each of them a client's line. Each place served its turn, from that before to that after; the
--- writer published so many entries, and ended for this cause; and so many changes are settled, or it is known that not all were taken. Nothing is said of seats and of
--- threads, of which there may be fewer.
+-- writer published so many entries, and ended for this cause; and so many changes are settled, or it is known that not all were taken.
+-- Nothing is said of seats and of threads, of which there may be fewer.
 pub record IsStoreRun (limit places : ℕ) (before after : List Connections) (version : ℕ) (changes : Option ℕ) (cause : Cause) : Type 0 where
   -- the history, and what the writer took and published
   pub writer : IsWriterRun limit places version

@@ -148,8 +148,8 @@ fn start_writer<
 /// entries that the writer took, all from these places, and published, but for its last entry, if that is held; all lists that any
 /// connection of any client was answered from are prefixes of it; each retained publication that any client was told is stored stands in it
 /// once; each client served all connections of its turn, over their own bytes and at their own times; what a client sent are their retained
-/// publications, in order; if the writer took the End of each line, all of it was taken; and if the changes are given, it was, once. It says the same whoever serves the clients, and however
-/// many seats there are.
+/// publications, in order; if the writer took the End of each line, all of it was taken; and if the changes are given, it was, once. It says
+/// the same whoever serves the clients, and however many seats there are.
 ///
 /// # Errors
 ///

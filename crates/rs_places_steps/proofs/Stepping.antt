@@ -22,7 +22,7 @@ use Rattle.rs_server.proofs.Goings.{none_served}
 use Rattle.rs_places_turns.specs.Visits.{IsConnectionServed, Place, ServedSoFar, Visit, next_number, place_at, transfer_of}
 use Rattle.rs_places_turns.specs.Ended.{HasEnded}
 use Rattle.rs_places_turns.specs.Shared.{HandsOn, Knows, SharedValue, operations_of}
-use Rattle.rs_places_turns.specs.Turns.{Connections, Ending, GivesNext, Streams, TakesBack}
+use Rattle.rs_places_turns.specs.Turns.{Connections, Ending, GivesNext, IsOut, Streams, TakesBack}
 use Rattle.rs_places_turns.proofs.HandedBack.{has_ended}
 use Rattle.rs_places_turns.proofs.ServedAt.{seen_as_shared, served_at}
 use Rattle.rs_places_turns.proofs.Visits.{ServesOne, served_more}
@@ -201,10 +201,11 @@ handed_on {G} stands mark pending shared limit most knows same_mark same_pending
     }
 
 -- so all is known of it
-pub ended_known : (limit number place : ℕ) (before : SharedValue) (given : Streams) (ending : Ending) (handed : SharedValue) (told : List Entry) → before.pending ≡ [] → Handed limit number before given ending handed
-    → place ≡ handed.mark.place → told ≡ handed.known → HasEnded limit place number ending told
-ended_known limit number place before given ending handed told none h place_is told_is =
-    has_ended limit place number before h.visit ending told none h.served (place_is ∙ ap (λ (g : SharedValue). g.mark.place) (sym h.leaves)) (sym h.ends) (told_is ∙ ap (λ (g : SharedValue). g.known) (sym h.leaves))
+pub ended_known : (limit number place : ℕ) (before : SharedValue) (given : Streams) (out : Option (Option Streams)) (ending : Ending) (handed : SharedValue) (told : List Entry) → before.pending ≡ [] → Handed limit number before given ending handed
+    → IsOut (Some given) out → place ≡ handed.mark.place → told ≡ handed.known → HasEnded limit place number out ending told
+ended_known limit number place before given out ending handed told none h own place_is told_is =
+    let O : Streams → Type 0 = λ s. IsOut (Some s) out in
+    has_ended limit place number before h.visit out ending told none h.served (subst O (sym h.over) own) (place_is ∙ ap (λ (g : SharedValue). g.mark.place) (sym h.leaves)) (sym h.ends) (told_is ∙ ap (λ (g : SharedValue). g.known) (sym h.leaves))
 
 -- and the turn took it back
 pub given_back : (limit : ℕ) (begun before : Place) (number next : ℕ) (given : Streams) (old new : Connections) (ending taken : Ending) (handed : SharedValue)

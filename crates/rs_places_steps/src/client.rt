@@ -204,7 +204,7 @@ impl<T: Turn + Drop, G: LineGate + Drop> ReadClient<T, G> {
 }
 
 impl<T: Turn + Drop, G: LineGate + Drop> EndedClient<T, G> {
-    /// Hands the gate on, and gives the connection back to the turn, with all that is known of it.
+    /// Hands the gate on, and gives the connection back to the turn, with a token of what its gate knows then.
     pub(crate) fn give_back(self) -> FreeClient<T, G>
         ensures { result ≡ self }
     {
@@ -220,12 +220,14 @@ impl<T: Turn + Drop, G: LineGate + Drop> EndedClient<T, G> {
         let (mut gate, refusals) = gate.into_parts();
         gate.hand_on();
         let line = gate.place();
+        let told = gate.told();
         turn.end(EndedConnection {
             connection,
             served: result,
             tally: Tally { packets, refusals },
             place: line,
             number,
+            told,
         });
         FreeClient {
             turn,

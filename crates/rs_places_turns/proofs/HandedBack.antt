@@ -1,11 +1,11 @@
 -- What is known of a connection that has ended, from what is known of one that was served.
-use Rattle.std.proofs.Common.{◌≡◌, ℕ, List, [], ◌∷◌, ◌++◌, refl, sym, subst, ◌∙◌, append-nil}
+use Rattle.std.proofs.Common.{◌≡◌, ℕ, Option, Some, List, [], ◌∷◌, ◌++◌, refl, sym, subst, ◌∙◌, append-nil}
 use Rattle.rs_message.specs.declared.entry.Entry.{Entry}
 use Rattle.rs_store.specs.History.{IsLegal}
 use Rattle.rs_server.specs.Conversation.{assigned_of, start}
 use Rattle.rs_places_turns.specs.Ended.{HasEnded}
 use Rattle.rs_places_turns.specs.Shared.{SharedValue}
-use Rattle.rs_places_turns.specs.Turns.{Ending}
+use Rattle.rs_places_turns.specs.Turns.{Ending, IsOut, Streams}
 use Rattle.rs_places_turns.specs.Visits.{IsConnectionServed, Visit}
 use Rattle.rs_places_turns.proofs.Marks.{marks_through}
 use Rattle.rs_places_turns.proofs.Within.{connection_within, visits_send}
@@ -15,14 +15,15 @@ pub place_stays : (limit number : ℕ) (before : SharedValue) (visit : Visit) �
 place_stays limit number before visit one =
     one.connection.handed_on.place ∙ (marks_through _ _ _ one.connection.marks one.connection.run).place
 
-pub has_ended : (limit place number : ℕ) (before : SharedValue) (visit : Visit) (ending : Ending) (told : List Entry) → before.pending ≡ [] → IsConnectionServed limit number before visit
-    → place ≡ visit.gate.mark.place → ending ≡ visit.ending → told ≡ visit.gate.known → HasEnded limit place number ending told
-has_ended limit place number before visit ending told none one place_is ending_is told_is =
+pub has_ended : (limit place number : ℕ) (before : SharedValue) (visit : Visit) (out : Option (Option Streams)) (ending : Ending) (told : List Entry) → before.pending ≡ [] → IsConnectionServed limit number before visit
+    → IsOut (Some visit.given) out → place ≡ visit.gate.mark.place → ending ≡ visit.ending → told ≡ visit.gate.known → HasEnded limit place number out ending told
+has_ended limit place number before visit out ending told none one own place_is ending_is told_is =
     let L : List Entry → Type 0 = λ list. IsLegal limit list in
     record {
       before = before;
       visit = visit;
       at_place = place_is ∙ place_stays limit number before visit one;
+      own = own;
       ends = ending_is;
       served = one;
       knew = told_is;

@@ -1,12 +1,12 @@
 -- A connection that was served and has ended, as it is handed back.
-use Rattle.std.specs.Prelude.{◌≡◌, ℕ, List, [], ◌∷◌, Option, Result}
+use Rattle.std.specs.Prelude.{◌≡◌, ℕ, List, [], ◌∷◌, Option, Some, Result}
 use Rattle.rs_message.specs.declared.entry.Entry.{Entry}
 use Rattle.rs_session.specs.Gate.{Sends}
 use Rattle.rs_server.specs.Conversation.{assigned_of, start}
 use Rattle.rs_server.specs.declared.connection.Served.{Served}
 use Rattle.rs_server.specs.declared.writing.ServeFault.{ServeFault}
 use Rattle.rs_places_turns.specs.Shared.{SharedValue}
-use Rattle.rs_places_turns.specs.Turns.{Ending}
+use Rattle.rs_places_turns.specs.Turns.{Ending, IsOut, Streams}
 use Rattle.rs_places_turns.specs.Visits.{IsConnectionServed, Visit}
 use Rattle.rs_places_turns.specs.Within.{ArePublications, IsWithin}
 
@@ -19,13 +19,14 @@ ending_of unread written moments read_failures write_failures result = record {
   result = result;
 }
 
--- What is known of a connection of this place and this number that has ended so: it ended as one does that was served under that number,
--- from what some gate of the place knew, over some streams, and whose gate knew this list last.
-pub record HasEnded (limit place number : ℕ) (ending : Ending) (told : List Entry) : Type 0 where
+-- What is known of a connection of this place and this number that has ended so: it is the one that is out, if that is told. It was served
+-- under that number, from what a gate of the place knew, and its gate knew this list last.
+pub record HasEnded (limit place number : ℕ) (out : Option (Option Streams)) (ending : Ending) (told : List Entry) : Type 0 where
   -- what the gate knew before, and the connection, with its streams as they were then
   pub before : SharedValue
   pub visit : Visit
   pub at_place : place ≡ before.mark.place
+  pub own : IsOut (Some visit.given) out
   pub ends : ending ≡ visit.ending
   -- it was served over these streams and at their times
   pub served : IsConnectionServed limit number before visit

@@ -1,4 +1,4 @@
--- What contracts see of a turn: the connections that it will still give, and those that it took back.
+-- What contracts see of a turn: the connections that it will still give, the one that is out, and those that it took back.
 use Rattle.std.specs.Prelude.{◌≡◌, ℕ, Option, Some, None, List, [], ◌∷◌, ◌++◌, ⊤, Result}
 use Rattle.rs_server.specs.declared.connection.Served.{Served}
 use Rattle.rs_server.specs.declared.writing.ServeFault.{ServeFault}
@@ -17,14 +17,16 @@ pub record Ending : Type 0 where
   pub write_failures : ℕ
   pub result : Result Served ServeFault
 
--- the connections that a turn will still give, and those that it took back, each in their order, if they are given
+-- the connections that a turn will still give, the one that it gave last if it was not taken back, and those that it took back; those of a
+-- list in their order; each if it is told
 pub record Connections : Type 0 where
   pub waiting : Option (List Streams)
+  pub out : Option (Option Streams)
   pub ended : Option (List Ending)
 
--- nothing is given
+-- nothing is told
 abbrev pub none_given : Connections
-none_given = record { waiting = None; ended = None }
+none_given = record { waiting = None; out = None; ended = None }
 
 -- these are the first of those that waited, and the others still wait, if they are given
 abbrev pub Gave : Option (List Streams) → List Streams → Option (List Streams) → Type 0
@@ -48,12 +50,19 @@ abbrev pub GivesFirst : Option (List Streams) → Option Streams → Option (Lis
 GivesFirst old (Some given) new = Gave old (given ∷ []) new
 GivesFirst old None new = AreAll old []
 
--- the next connection is given, and none is taken back
+-- this connection is out, or none is, if that is told
+abbrev pub IsOut : Option Streams → Option (Option Streams) → Type 0
+IsOut given None = ⊤
+IsOut given (Some out) = out ≡ given
+
+-- the next connection is given, so it is out, and none is taken back
 pub record GivesNext (old : Connections) (given : Option Streams) (new : Connections) : Type 0 where
   pub waiting : GivesFirst old.waiting given new.waiting
+  pub out : IsOut given new.out
   pub ended : TookBack old.ended [] new.ended
 
--- a connection is taken back, and none is given
+-- the connection that is out is taken back, and none is given
 pub record TakesBack (old : Connections) (ending : Ending) (new : Connections) : Type 0 where
   pub waiting : Gave old.waiting [] new.waiting
+  pub out : IsOut None new.out
   pub ended : TookBack old.ended (ending ∷ []) new.ended

@@ -1,8 +1,6 @@
 //! What gives a place its connections.
 
-ghost use Rattle.std.specs.Prelude.{ℕ, List};
 ghost use Rattle.std.specs.Option.{option_map};
-ghost use Rattle.rs_message.specs.declared.entry.Entry.{Entry};
 ghost use Rattle.rs_server.specs.Counts.{failures_of, inner_of};
 ghost use Rattle.rs_places_turns.specs.Ended.{HasEnded, ending_of};
 ghost use Rattle.rs_places_turns.specs.Turns.{GivesNext, TakesBack};
@@ -51,15 +49,16 @@ pub trait Turn {
               moments = Self.Time.moments c.clock;
             }) result) (connections self.new) };
 
-    /// Takes back a connection that was served and has ended.
+    /// Takes back the connection that it gave last, which was served and has ended.
     ///
-    /// Whoever calls it owes what is known of a connection at its end (`HasEnded`), also in a run that never ends: it ended as a session does
-    /// that was served under its number.
-    fn end(&mut self, ended: EndedConnection<Self::In, Self::Out, Self::Time>)
-        requires { (limit : ℕ) × (told : List Entry) × HasEnded limit ended.place ended.number
+    /// Whoever calls it owes what is known of a connection at its end (`HasEnded`), also in a run that never ends: it was served under its
+    /// number, over the bytes and times that this turn gave it, if these are told, and each list that it was answered from is a prefix of that
+    /// of its token.
+    fn end<N: StoreName>(&mut self, ended: EndedConnection<N, Self::In, Self::Out, Self::Time>)
+        requires { HasEnded N.limit ended.place ended.number (connections self.old).out
             (ending_of (Self.In.remaining (inner_of ended.connection.input)) (Self.Out.contents (inner_of ended.connection.output))
             (Self.Time.moments ended.connection.clock) (failures_of ended.connection.input) (failures_of ended.connection.output) ended.served)
-            told }
+            ended.told }
         ensures { TakesBack (connections self.old)
             (ending_of (Self.In.remaining (inner_of ended.connection.input)) (Self.Out.contents (inner_of ended.connection.output))
             (Self.Time.moments ended.connection.clock) (failures_of ended.connection.input) (failures_of ended.connection.output) ended.served)

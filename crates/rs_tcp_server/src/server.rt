@@ -122,7 +122,7 @@ impl Server {
     ///
     /// [`NoMemory`](ListenFault::NoMemory) if memory is refused for the store, the queue, the gates or the threads,
     /// [`NoThread`](ListenFault::NoThread) if the thread of the store's writer, or that of the first client or the first lane, cannot be started,
-    /// [`Address`](ListenFault::Address) if the descriptors are refused by which clients are watched. No client was served.
+    /// [`Address`](ListenFault::Address) if the descriptors are refused by which clients are watched. No client was served, as the code is made; no clause says so.
     pub fn run<H: Clock + Log + Threads + Wait + Copy + Send + Sync + 'static>(
         self,
         rt: H,

@@ -11,6 +11,7 @@ use log::{Log, info};
 use rs_places_turns::{Connection, EndedConnection, Turn};
 use rs_server::Tally;
 use rs_tcp_sockets::{Accepted, FromClient, Listener, SystemClock, ToClient, abandon, close};
+use rs_version::StoreName;
 use std::alloc::Global;
 use std::fmt;
 use std::fmt::{Display, Formatter};
@@ -162,7 +163,10 @@ impl<H: Clock + Log + Copy + Send> Turn for ListenTurn<H> {
     }
 
     /// Closes the connection, as [`abandon`] does if it failed, else as [`close`].
-    fn end(&mut self, ended: EndedConnection<FromClient, ToClient, ConnectionClock<H>>)
+    fn end<N: StoreName>(
+        &mut self,
+        ended: EndedConnection<N, FromClient, ToClient, ConnectionClock<H>>,
+    )
         ensures { TakesBack none_given
             (ending_of (⟦<FromClient as Read>⟧.remaining (inner_of ended.connection.input)) (⟦<ToClient as Write>⟧.contents (inner_of ended.connection.output))
             (⟦<ConnectionClock<H> as rs_server::Clock>⟧.moments ended.connection.clock) (failures_of ended.connection.input) (failures_of ended.connection.output) ended.served)

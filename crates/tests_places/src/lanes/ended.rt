@@ -10,6 +10,7 @@ use kit_places::{Counts, as_wanted, run};
 use kit_test::{CONNACK, CONNECT, concat, is_concat};
 use rs_places_turns::{Connection, EndedConnection, Turn};
 use rs_server::{Clock, Moments, Served};
+use rs_version::StoreName;
 use std::alloc::{AllocError, Global};
 use std::collections::VecDeque;
 use std::io::{Read, Write};
@@ -36,6 +37,8 @@ struct Publisher {
     counts: Arc<Counts>,
     place: u16,
     given: u64,
+    /// How many entries there were when its last connection had ended.
+    version: u64,
 }
 
 /// A connection in memory.
@@ -69,7 +72,7 @@ impl Turn for Publisher {
         Some(connection)
     }
 
-    fn end(&mut self, ended: EndedConnection<VecDeque<u8>, Vec<u8>, Moments>)
+    fn end<N: StoreName>(&mut self, ended: EndedConnection<N, VecDeque<u8>, Vec<u8>, Moments>)
         ensures { TakesBack none_given
             (ending_of (⟦<VecDeque<u8> as Read>⟧.remaining (inner_of ended.connection.input)) (⟦<Vec<u8> as Write>⟧.contents (inner_of ended.connection.output))
             (⟦<Moments as Clock>⟧.moments ended.connection.clock) (failures_of ended.connection.input) (failures_of ended.connection.output) ended.served)
@@ -81,17 +84,22 @@ impl Turn for Publisher {
             tally,
             place,
             number,
+            told,
         } = ended;
         let is_told = served == Ok(Served::ClientClosed) && tally.packets == 3;
         let output = connection.output.into_inner();
         let is_last = place == self.place && number == self.given;
-        if is_last && is_told && is_concat(&output, &[CONNACK, PUBACK]) {
+        // It knew its own entry, which no connection before it knew.
+        let is_newer = told.version() > self.version;
+        self.version = told.version();
+        if is_last && is_newer && is_told && is_concat(&output, &[CONNACK, PUBACK]) {
             self.counts.right.fetch_add(1, Ordering::SeqCst);
         }
     }
 }
 
-/// Each of 20,000 connections comes back to the turn that gave it, under the next number, with its replies and how it ended.
+/// Each of 20,000 connections comes back to the turn that gave it, under the next number, with its replies, how it ended and a token of a
+/// list that holds its publication.
 #[test]
 fn each_connection_comes_back(rt: HostRuntime) -> Result<(), Fail> {
     let alloc = rt.alloc();
@@ -103,6 +111,7 @@ fn each_connection_comes_back(rt: HostRuntime) -> Result<(), Fail> {
             counts: Arc::try_clone(&counts)?,
             place,
             given: 0,
+            version: 0,
         })?;
     }
     let two = lanes(rt, alloc, 2, Manner::InOrder)?;

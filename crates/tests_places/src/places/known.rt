@@ -15,10 +15,11 @@ use rs_places::{StoreEnd, run_store};
 use rs_places_pool::{NoWatch, Runner};
 use rs_places_turns::{Connection, EndedConnection, StoreFault, Turn};
 use rs_server::{Clock, Moments, Refusals, ServeFault, Served};
-use rs_version::Blank;
+use rs_version::{Blank, StoreName};
 use std::alloc::{AllocError, Global};
 use std::collections::VecDeque;
 use std::io::{Read, Write};
+use std::snapshot::Snapshot;
 use std::sync::Wait;
 use std::test::Fail;
 use std::thread::Threads;
@@ -40,6 +41,8 @@ struct Outcome {
 #[derive(Drop)]
 struct Listed {
     waiting: VecDeque<Played>,
+    /// For proofs: the one that is out, as it was given.
+    out: Snapshot<Option<Played>>,
     /// None once one could not be kept.
     ended: Option<Vec<Outcome>>,
 }
@@ -58,6 +61,8 @@ impl Turn for Listed {
     ghost connections = { λ turn. record {
       waiting = Some (map (λ c. record { unread = Some c.input.items; written = Some c.output.items; moments = Some (told_by c.clock) })
           turn.waiting.items);
+      out = Some (option_map (λ c. record { unread = Some c.input.items; written = Some c.output.items; moments = Some (told_by c.clock) })
+          turn.out.value);
       ended = option_map (λ all. map (λ o.
           record {
             streams = record {
@@ -72,10 +77,12 @@ impl Turn for Listed {
     } };
 
     fn next(&mut self) -> Option<Played> {
-        self.waiting.pop_front()
+        let next = self.waiting.pop_front();
+        self.out = Snapshot::of(&next);
+        next
     }
 
-    fn end(&mut self, ended: EndedConnection<VecDeque<u8>, Vec<u8>, Moments>)
+    fn end<N: StoreName>(&mut self, ended: EndedConnection<N, VecDeque<u8>, Vec<u8>, Moments>)
         ensures { TakesBack (⟦<Listed as Turn>⟧.connections self.old)
             (ending_of (⟦<VecDeque<u8> as Read>⟧.remaining (inner_of ended.connection.input)) (⟦<Vec<u8> as Write>⟧.contents (inner_of ended.connection.output))
             (⟦<Moments as Clock>⟧.moments ended.connection.clock) (failures_of ended.connection.input) (failures_of ended.connection.output) ended.served)
@@ -105,6 +112,7 @@ impl Turn for Listed {
             served,
             refusals: tally.refusals,
         };
+        self.out = Snapshot::of(&None);
         let Some(mut ended) = self.ended.take() else {
             return;
         };
@@ -150,6 +158,7 @@ fn played(alloc: Global, input: &[u8]) -> Result<Played, AllocError> {
 fn place_of(alloc: Global, waiting: Vec<Played>) -> Listed {
     Listed {
         waiting: VecDeque::from_vec(waiting),
+        out: Snapshot::of(&None),
         ended: Some(Vec::new(alloc)),
     }
 }
