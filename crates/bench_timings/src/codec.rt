@@ -2,7 +2,7 @@
 
 use crate::row::nanos;
 use bytes::Bytes;
-use kit_calls::Failure;
+use kit_test::Failure;
 use rs_message::{Found, MAX_PACKET_SIZE, Message};
 use rs_packet::{Codes, Decoded, Packet, Publish, PublishReply, Reply, Subscribe, decode, encode};
 use std::alloc::Global;

@@ -20,7 +20,7 @@ mod versions;
 mod window;
 
 use crate::tree::Task;
-use kit_calls::{Failure, Naming};
+use kit_test::{Failure, Naming};
 use rs_store::TopicLimit;
 use std::alloc::Global;
 use std::env;

@@ -3,7 +3,7 @@
 ghost use Rattle.std.specs.Prelude.{◌≡◌, ◌<◌, ◌^◌, false, IfOk};
 ghost use Rattle.rs_message.specs.Messages.{is_sweep};
 
-use kit_calls::{Change, Failure, Keeper, Naming, Outcome, check, entry};
+use kit_test::{Change, Failure, Keeper, Naming, Outcome, check, entry};
 use rs_message::Entry;
 use std::alloc::Global;
 use std::rt::Clock;

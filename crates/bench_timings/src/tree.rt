@@ -1,7 +1,7 @@
 //! How long the calls of a tree take.
 
 use crate::row::{EARLY, Row, expiring, fill, in_order, nanos, timed};
-use kit_calls::{Change, Failure, Keeper, Naming, Outcome, check};
+use kit_test::{Change, Failure, Keeper, Naming, Outcome, check};
 use rs_store::{CalmCatalogue, Catalogue, TopicLimit};
 use rs_topic::TopicFilter;
 use rs_tree::TreeCatalogue;

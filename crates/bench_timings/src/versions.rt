@@ -3,7 +3,7 @@
 ghost use Rattle.std.specs.Prelude.{◌≡◌};
 
 use crate::row::{EARLY, Row, expiring, fill, in_order, nanos, timed};
-use kit_calls::{Change, Failure, Keeper, Naming, check};
+use kit_test::{Change, Failure, Keeper, Naming, check};
 use rs_message::{MAX_PLACES, PlaceCount};
 use rs_store::TopicLimit;
 use rs_topic::TopicFilter;

@@ -1,6 +1,6 @@
 //! Rounds of a window: a message is given, acknowledged, and queued again behind the others.
 
-use kit_calls::{Failure, messages};
+use kit_test::{Failure, messages};
 use rs_packet::{PacketId, Qos};
 use rs_topic::TopicName;
 use rs_window::{Outgoing, Window};

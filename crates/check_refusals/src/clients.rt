@@ -4,7 +4,7 @@ ghost use Rattle.std.specs.Prelude.{◌≡◌};
 
 use crate::groups::{Group, Grouping, Opened, ROUNDS, blanks, groups, leave, open, start, summed};
 use crate::view::View;
-use kit_calls::{Failure, check};
+use kit_test::{Failure, check};
 use rs_intake::BlankQueue;
 use rs_intake_line::LineName;
 use rs_message::{Operation, SubmitFault};

@@ -5,8 +5,7 @@ ghost use Rattle.rs_places_turns.specs.Ended.{ending_of};
 ghost use Rattle.rs_places_turns.specs.Turns.{TakesBack, none_given};
 
 use crate::groups::blanks;
-use kit_calls::{Failure, check};
-use kit_test::{CONNACK, CONNECT, concat, is_concat};
+use kit_test::{CONNACK, CONNECT, Failure, check, concat, is_concat};
 use rs_places::run_store;
 use rs_places_pool::{NoWatch, Runner};
 use rs_places_turns::{Connection, EndedConnection, Turn};

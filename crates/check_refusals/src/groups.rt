@@ -5,7 +5,7 @@ ghost use Rattle.rs_message.specs.Messages.{is_sweep};
 ghost use Rattle.rs_version.specs.Writer.{kept_of};
 
 use crate::view::View;
-use kit_calls::{Change, Failure, Naming, check, operation};
+use kit_test::{Change, Failure, Naming, check, operation};
 use rs_intake::{BlankQueue, Ended, Queue, blank_queue, run_writer, settle};
 use rs_intake_line::{Intake, LineEnd, LineName, SeatLine};
 use rs_message::{LineCount, Operation, PlaceCount};

@@ -18,7 +18,7 @@ mod versions;
 mod view;
 mod window;
 
-use kit_calls::Failure;
+use kit_test::Failure;
 use std::alloc::Global;
 use std::env;
 use std::env::Env;

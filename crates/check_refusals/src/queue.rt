@@ -6,7 +6,7 @@ use crate::groups::{
     Done, Grouping, Opened, Place, blanks, groups, leave, open, refused, start, submit_all, summed,
 };
 use crate::view::{View, view_of};
-use kit_calls::Failure;
+use kit_test::Failure;
 use rs_intake::{BlankQueue, Ended};
 use rs_intake_line::{Intake, LineName, SeatLine};
 use rs_message::{Operation, SubmitFault};

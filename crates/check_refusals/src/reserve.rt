@@ -2,7 +2,7 @@
 
 ghost use Rattle.std.specs.Prelude.{◌≡◌};
 
-use kit_calls::{Change, Failure, Keeper, Naming, Outcome, check, entry};
+use kit_test::{Change, Failure, Keeper, Naming, Outcome, check, entry};
 use rs_message::{Entry, PlaceCount};
 use rs_store::TopicLimit;
 use rs_version::{Blank, StoreName};

@@ -1,6 +1,6 @@
 //! What a tree, and messages that were taken out of it, show after memory was refused to `add`. To take them takes none.
 
-use kit_calls::{Change, Failure, HOUSE, Keeper, Naming, Outcome, check, entry, topic};
+use kit_test::{Change, Failure, HOUSE, Keeper, Naming, Outcome, check, entry, topic};
 use rs_message::{Entry, Found, Remaining};
 use rs_store::{CalmCatalogue, Catalogue, Messages, TopicLimit};
 use rs_topic::{TopicFilter, TopicName};

@@ -4,7 +4,7 @@ ghost use Rattle.std.specs.Prelude.{◌≡◌, ◌<◌, ◌^◌, false, IfOk};
 ghost use Rattle.rs_message.specs.Messages.{is_sweep};
 
 use crate::view::{View, view_of};
-use kit_calls::{Change, Failure, Naming, check, entry};
+use kit_test::{Change, Failure, Naming, check, entry};
 use rs_message::{Entry, Origin, PlaceCount};
 use rs_store::TopicLimit;
 use rs_topic::TopicFilter;

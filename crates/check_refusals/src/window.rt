@@ -1,6 +1,6 @@
 //! What a window gives after memory was refused to `queue`.
 
-use kit_calls::{Failure, check, messages};
+use kit_test::{Failure, check, messages};
 use rs_packet::Qos;
 use rs_topic::TopicName;
 use rs_window::{Window, WindowFault};

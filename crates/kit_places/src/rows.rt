@@ -1,8 +1,7 @@
 //! Connections as rows of a table.
 
 use crate::script::{Counts, Course, Script};
-use kit_server::ServeResult;
-use kit_test::{Behavior, Call, concat, cut_off, limits};
+use kit_test::{Behavior, Call, ServeResult, concat, cut_off, limits};
 use rs_server::Served;
 use std::alloc::{AllocError, Global};
 use std::sync::Arc;

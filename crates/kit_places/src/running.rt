@@ -2,7 +2,7 @@
 
 use crate::rows::{Row, put_rows, scripts};
 use crate::script::Counts;
-use kit_version::blank_store;
+use kit_test::blank_store;
 use rs_intake::{Cause, blank_queue};
 use rs_message::{LineCount, MAX_LINES, PlaceCount};
 use rs_places::{StoreEnd, run_store};

@@ -4,8 +4,7 @@ ghost use Rattle.rs_server.specs.Counts.{failures_of, inner_of};
 ghost use Rattle.rs_places_turns.specs.Ended.{ending_of};
 ghost use Rattle.rs_places_turns.specs.Turns.{TakesBack, none_given};
 
-use kit_server::ServeResult;
-use kit_test::{Behavior, CONNACK, FaultyStream, is_concat};
+use kit_test::{Behavior, CONNACK, FaultyStream, ServeResult, is_concat};
 use rs_places_turns::{Connection, EndedConnection, Turn};
 use rs_server::{Clock, ServeFault, Served};
 use rs_version::StoreName;

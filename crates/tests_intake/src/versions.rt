@@ -2,8 +2,7 @@
 
 mod steps;
 
-use kit_test::is_shown;
-use kit_version::blank_store;
+use kit_test::{blank_store, is_shown};
 use rs_message::PlaceCount;
 use rs_version::{Blank, PutFault};
 use std::alloc::Global;

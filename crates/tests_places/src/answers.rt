@@ -2,8 +2,7 @@
 
 mod shared;
 
-use kit_message::set;
-use kit_version::blank_store;
+use kit_test::{blank_store, set};
 use rs_intake::blank_queue;
 use rs_message::{Found, LineCount, PlaceCount};
 use rs_program_pipe::OwnGate;

@@ -1,7 +1,6 @@
 //! Worked examples: what is given, in which order, and with which identifiers.
 
-use kit_message::found;
-use kit_test::is_shown;
+use kit_test::{found, is_shown};
 use rs_message::Found;
 use rs_packet::{PacketId, Qos, RECEIVE_MAXIMUM, SubscriptionId, encode};
 use rs_window::{Ack, Inbound, MAX_QUOTA, MAX_WAITING, Outgoing, Window, WindowFault};

@@ -3,7 +3,7 @@
 ghost use Rattle.std.specs.Prelude.{◌≡◌};
 
 use super::script::{Act, operation_of};
-use kit_version::blank_store;
+use kit_test::blank_store;
 use rs_intake::{BlankQueue, blank_queue, run_writer};
 use rs_intake_line::{Fullness, Intake, LineName, SeatLine};
 use rs_message::{LineCount, PlaceCount};

@@ -3,8 +3,7 @@
 ghost use Rattle.std.specs.Prelude.{◌≡◌, false, All, IfSome};
 ghost use Rattle.rs_message.specs.Messages.{is_sweep};
 
-use kit_message::set;
-use kit_version::blank_store;
+use kit_test::{blank_store, set};
 use rs_intake::{BlankQueue, blank_queue, run_writer, settle};
 use rs_intake_line::{Intake, LineEnd, LineName, SeatLine};
 use rs_intake_queue::Polls;

@@ -6,7 +6,7 @@ ghost use Rattle.rs_version.specs.Writer.{kept_of};
 
 use super::log::{Log, Outcome, Ran, Totals};
 use super::script::{Act, Script, operation_of};
-use kit_version::{blank_store, read_all};
+use kit_test::{blank_store, read_all};
 use rs_intake::{BlankQueue, Ended, Queue, blank_queue, run_writer, run_writer_for, settle};
 use rs_intake_line::{Intake, LineEnd, LineName, SeatLine};
 use rs_message::{LineCount, Operation, PlaceCount};

@@ -3,8 +3,7 @@
 ghost use Rattle.std.specs.Prelude.{◌≡◌, false, IfSome};
 ghost use Rattle.rs_message.specs.Messages.{is_sweep};
 
-use kit_message::set;
-use kit_version::blank_store;
+use kit_test::{blank_store, set};
 use rs_intake_line::{LineName, WriterReply, read_reply};
 use rs_message::{Entry, Origin, PlaceCount};
 use rs_version::{Blank, PutFault};

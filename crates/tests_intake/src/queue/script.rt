@@ -3,7 +3,7 @@
 ghost use Rattle.std.specs.Prelude.{◌≡◌, false, IfSome};
 ghost use Rattle.rs_message.specs.Messages.{is_sweep};
 
-use kit_message::{PAYLOAD, clear, set_at};
+use kit_test::{PAYLOAD, clear, set_at};
 use rs_message::{MAX_PLACES, Operation};
 use rs_topic::MAX_TEXT_SIZE;
 use std::alloc::Global;

@@ -3,8 +3,7 @@
 ghost use Rattle.std.specs.Prelude.{◌≡◌, false, IfSome};
 ghost use Rattle.rs_message.specs.Messages.{is_sweep};
 
-use kit_message::{clear, set_at};
-use kit_version::read_all;
+use kit_test::{clear, read_all, set_at};
 use rs_message::{Entry, Found, Operation, Origin};
 use rs_version::{Blank, Receipt, Seat, Snapshot, StoreName, Told, VersionWriter};
 use std::alloc::Global;

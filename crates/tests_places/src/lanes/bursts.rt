@@ -3,8 +3,7 @@
 use super::lanes;
 use super::memory::Manner;
 use kit_places::{Counts, Course, PLAIN, Played, Script, as_wanted, ending, later, run};
-use kit_server::ServeResult;
-use kit_test::{Behavior, CONNACK, CONNECT, Call};
+use kit_test::{Behavior, CONNACK, CONNECT, Call, ServeResult};
 use rs_places_pool::{NoWatch, Runner};
 use rs_server::{ServeFault, Served};
 use std::alloc::{AllocError, Global};

@@ -1,8 +1,7 @@
 //! Publications that came in one piece: their changes go to the writer together.
 
 use kit_places::{NONE, PLAIN, PUBLISHES, Row, as_wanted, cut_row, ending, plain_row, play};
-use kit_server::{SECOND, ServeResult};
-use kit_test::{Behavior, Call, SUBSCRIBED};
+use kit_test::{Behavior, Call, SECOND, SUBSCRIBED, ServeResult};
 use rs_server::{ServeFault, Served};
 use std::test::Fail;
 

@@ -6,8 +6,7 @@ use kit_places::{
     CLOSED, Counts, PUBLISHES, SUBSCRIBES, Script, comes, ending, later, plain_row, put_rows,
     scripts,
 };
-use kit_test::SUBSCRIBED;
-use kit_version::blank_store;
+use kit_test::{SUBSCRIBED, blank_store};
 use rs_intake::{BlankQueue, Queue, blank_queue};
 use rs_intake_line::{LineEnd, LineName};
 use rs_message::{LineCount, PlaceCount};

@@ -1,10 +1,10 @@
 //! One failing read, write or flush, and what the next connections of the place get then.
 
 use kit_places::{NONE, PLAIN, PUBLISHES, Row, as_wanted, cut_row, ending, plain_row, play};
-use kit_server::{
-    FAULTS, FIRST, FIRST_REPLIES, Fault, SECOND, ServeResult, first_written, second_replies,
+use kit_test::{
+    Behavior, FAULTS, FIRST, FIRST_REPLIES, Fault, SECOND, ServeResult, first_written,
+    second_replies,
 };
-use kit_test::Behavior;
 use rs_server::Served;
 use std::test::Fail;
 

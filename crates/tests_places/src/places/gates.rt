@@ -5,8 +5,7 @@ ghost use Rattle.std.specs.Prelude.{◌≡◌, [], false, All, IfSome};
 ghost use Rattle.rs_message.specs.Messages.{is_sweep};
 ghost use Rattle.rs_version.specs.Writer.{kept_of};
 
-use kit_message::set;
-use kit_version::blank_store;
+use kit_test::{blank_store, set};
 use rs_intake::{BlankQueue, Ended, Queue, blank_queue, run_writer, settle};
 use rs_intake_line::LineName;
 use rs_message::{LineCount, Operation, PlaceCount};

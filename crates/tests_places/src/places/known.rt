@@ -7,8 +7,7 @@ ghost use Rattle.rs_places_turns.specs.Turns.{TakesBack};
 ghost use Rattle.tests_places.specs.Answered.{AreAnswered};
 
 use kit_places::{NONE, PUBLISHES, SUBSCRIBES};
-use kit_test::{CONNACK, CONNECT, REPLAYED, SUBSCRIBED, concat, is_concat};
-use kit_version::blank_store;
+use kit_test::{CONNACK, CONNECT, REPLAYED, SUBSCRIBED, blank_store, concat, is_concat};
 use rs_intake::{BlankQueue, blank_queue};
 use rs_message::{LineCount, PlaceCount};
 use rs_places::{StoreEnd, run_store};

@@ -5,8 +5,7 @@
 //! kind, and three filters that match 40,000 messages each.
 
 use kit_places::{NONE, PLAIN, PUBLISHES, Row, SUBSCRIBES, as_wanted, ending, plain_row, play};
-use kit_server::ServeResult;
-use kit_test::{CONNACK, CONNECT, REPLAYED};
+use kit_test::{CONNACK, CONNECT, REPLAYED, ServeResult};
 use rs_server::Served;
 use std::alloc::{AllocError, Global};
 use std::test::Fail;

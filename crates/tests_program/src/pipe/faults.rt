@@ -1,10 +1,10 @@
 //! One failing read, write or flush, and what a second connection by the same gate gets then, over the
 //! program's store and over a bare gate.
 
-use kit_server::{
-    FAULTS, FIRST, FIRST_REPLIES, Fault, SECOND, ServeResult, first_written, second_replies,
+use kit_test::{
+    Behavior, CONNACK, Call, FAULTS, FIRST, FIRST_REPLIES, Fault, FaultyStream, SECOND,
+    ServeResult, cut_off, first_written, is_concat, second_replies,
 };
-use kit_test::{Behavior, CONNACK, Call, FaultyStream, cut_off, is_concat};
 use rs_program_pipe::OwnGate;
 use rs_server::{ConnectionId, Counted, Moments, Served, serve};
 use rs_session::{Gate, LocalGate};

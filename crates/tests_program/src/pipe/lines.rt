@@ -1,7 +1,6 @@
 //! Lines of hex digits instead of bytes.
 
-use kit_server::REFUSING_GATE;
-use kit_test::{CONNACK, REPLAYED, concat, is_concat, limits};
+use kit_test::{CONNACK, REFUSING_GATE, REPLAYED, concat, is_concat, limits};
 use rs_program_pipe::{PipeFault, pipe, serve_bytes};
 use rs_server::Served;
 use std::alloc::{AllocError, Global};

@@ -1,7 +1,6 @@
 //! One failing read, write or flush of `pipe`, over bytes and over lines of hex digits: the fault names what failed.
 
-use kit_server::FIRST;
-use kit_test::{Behavior, Call, FaultyStream};
+use kit_test::{Behavior, Call, FIRST, FaultyStream};
 use rs_program_pipe::{OwnGate, PipeFault, pipe};
 use rs_server::Served;
 use std::alloc::Global;

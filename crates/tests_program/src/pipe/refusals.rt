@@ -1,7 +1,6 @@
 //! What a client is answered if the gate gives no receipt for its publication.
 
-use kit_server::Refusing;
-use kit_test::{CONNACK, CONNECT, concat};
+use kit_test::{CONNACK, CONNECT, Refusing, concat};
 use rs_message::SubmitFault;
 use rs_program_pipe::pipe;
 use rs_server::Served;

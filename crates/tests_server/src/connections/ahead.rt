@@ -2,8 +2,7 @@
 
 use super::expecting::{Announced, Expecting};
 use super::steps::{WAYS, Way, serve_by};
-use kit_server::{REFUSING_GATE, Refusing};
-use kit_test::{CONNACK, CONNECT, is_concat};
+use kit_test::{CONNACK, CONNECT, REFUSING_GATE, Refusing, is_concat};
 use rs_message::SubmitFault;
 use rs_server::{Clock, ConnectionId, Counted, Moments, ServeFault, Served};
 use rs_session::{Gate, LocalGate};

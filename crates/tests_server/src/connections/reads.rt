@@ -1,7 +1,6 @@
 //! How much each read asks for.
 
-use kit_server::REFUSING_GATE;
-use kit_test::CONNECT;
+use kit_test::{CONNECT, REFUSING_GATE};
 use rs_server::{ConnectionId, Counted, Moments, ServeFault, Served, serve};
 use std::alloc::{AllocError, Global};
 use std::io;

@@ -1,8 +1,7 @@
 //! Clients that send and take bytes slowly, or fail.
 
 use super::steps::{WAYS, Way, serve_by};
-use kit_server::REFUSING_GATE;
-use kit_test::{Behavior, CONNACK, Call, FaultyStream, cut_off, is_concat, limits};
+use kit_test::{Behavior, CONNACK, Call, FaultyStream, REFUSING_GATE, cut_off, is_concat, limits};
 use rs_server::{ConnectionId, Counted, Moments, ServeFault, Served};
 use std::alloc::{AllocError, Global};
 use std::io;

@@ -10,7 +10,7 @@ use super::joined::{
 };
 use super::lengths::check_lengths;
 use super::wide::{check_grown, check_swept_grown};
-use kit_message::{clear, origin, set_at};
+use kit_test::{clear, origin, set_at};
 use rs_message::{Entry, Found, Operation};
 use rs_store::{CalmCatalogue, Catalogue, MapCatalogue, Refusal, TopicLimit};
 use rs_topic::TopicFilter;

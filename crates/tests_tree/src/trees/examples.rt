@@ -3,7 +3,7 @@
 ghost use Rattle.std.specs.Prelude.{◌≡◌, false, IfSome};
 ghost use Rattle.rs_message.specs.Messages.{is_sweep};
 
-use kit_message::{clear, origin, set_at};
+use kit_test::{clear, origin, set_at};
 use rs_message::{Entry, Found, MAX_LINES, Operation, Origin};
 use rs_store::{CalmCatalogue, Catalogue, MapCatalogue, Messages, Refusal, TopicLimit};
 use rs_topic::TopicFilter;

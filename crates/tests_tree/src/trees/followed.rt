@@ -5,7 +5,7 @@ use super::examples::take;
 use super::snapshots::shown_by;
 use super::sweeps::sweep_of;
 use super::wide::name_of as wide_name_of;
-use kit_message::{clear, origin, set_at};
+use kit_test::{clear, origin, set_at};
 use rs_message::Entry;
 use rs_store::{Catalogue, TopicLimit};
 use rs_topic::TopicFilter;

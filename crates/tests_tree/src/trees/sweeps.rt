@@ -2,7 +2,7 @@
 
 use super::alike::{Draw, check_filter_alike, name_of};
 use super::examples::take;
-use kit_message::{clear, origin, set_at};
+use kit_test::{clear, origin, set_at};
 use rs_message::{Entry, Operation, Origin};
 use rs_store::{Catalogue, MapCatalogue, TopicLimit};
 use rs_tree::TreeCatalogue;

@@ -1,4 +1,4 @@
-//! Topics, messages and entries to work with.
+//! Topics, messages and entries by number, to work with.
 
 ghost use Rattle.std.specs.Prelude.{◌≡◌, ◌≤◌, ◌≢◌, [], false, length, IfOk};
 ghost use Rattle.rs_message.specs.Messages.{is_sweep};

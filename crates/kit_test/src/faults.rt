@@ -1,7 +1,8 @@
 //! What one failing read, write or flush comes to, over any gate: a connection publishes and fails, and the next one by the same gate
 //! reads.
 
-use kit_test::{Call, REPLAYED, SUBSCRIBED};
+use crate::packets::{REPLAYED, SUBSCRIBED};
+use crate::streams::Call;
 use rs_server::{ServeFault, Served};
 
 /// What the first connection sends: CONNECT (16 bytes), a retained PUBLISH of QoS 1 (11 bytes), DISCONNECT.
