@@ -1,9 +1,9 @@
 -- Lemmas on the output of a connection over lines of hex digits.
 use Rattle.std.proofs.Common.{◌≡◌, ◌≤◌, ℕ, List, Option, None, Some, length, sym, ap, arith}
 use Rattle.std.specs.Io.KnownBytes.{append_known}
-use Rattle.rs_program_hex.specs.Lines.{written_bytes}
-use Rattle.rs_program_hex.specs.Views.{due_digits, hex_contents, output_of}
-use Rattle.rs_program_hex.specs.declared.writer.HexWriter.{HexWriter}
+use Rattle.rs_program_pipe.specs.Lines.{written_bytes}
+use Rattle.rs_program_pipe.specs.Views.{due_digits, hex_contents, output_of}
+use Rattle.rs_program_pipe.specs.declared.writer.HexWriter.{HexWriter}
 
 -- at most one digit is due
 pub one_digit : (due : Option ℕ) → length (due_digits due) ≤ 1

@@ -1,7 +1,7 @@
 -- One connection from an input to an output.
 use Rattle.std.specs.Prelude.{◌≡◌, ◌≤◌, ℕ, Bool, true, false, Option, None, Result, Ok, Err, List, length}
 use Rattle.std.specs.Io.KnownBytes.{append_known}
-use Rattle.rs_program_hex.specs.Lines.{read_bytes, written_bytes}
+use Rattle.rs_program_pipe.specs.Lines.{read_bytes, written_bytes}
 use Rattle.rs_message.specs.declared.entry.Operation.{Operation}
 use Rattle.rs_session.specs.Points.{Point}
 use Rattle.rs_session.specs.State.{State}

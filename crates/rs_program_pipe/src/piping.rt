@@ -7,7 +7,8 @@ ghost use Rattle.rs_server.specs.Conversation.{assigned_of, gate_view, start};
 ghost use Rattle.rs_program_pipe.specs.Piping.{IsPiped, piped};
 ghost use Rattle.rs_program_pipe.specs.Faults.{pipe_fault, pipe_status};
 
-use rs_program_hex::{HexReader, HexWriter};
+use crate::reader::HexReader;
+use crate::writer::HexWriter;
 use rs_server::{ConnectionId, Counted, Moments, ServeFault, Served, serve};
 use rs_session::Gate;
 use std::alloc::Global;

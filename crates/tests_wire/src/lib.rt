@@ -1,9 +1,11 @@
-//! Tests of topics, messages, packets, the window, records and lines of hex digits by their public calls. They stand in a crate of their own, so
-//! that the crates below are not proved a second time with them.
+//! Tests of topics, messages, packets, the window, records, sessions and connections by their public calls. They stand in a crate of their
+//! own, so that the crates below are not proved a second time with them.
 #![tactic(auto)]
 
 #[cfg(test)]
-mod hex_lines;
+mod connections;
+#[cfg(test)]
+mod handed;
 #[cfg(test)]
 mod messages;
 #[cfg(test)]

@@ -1,5 +1,5 @@
 use Rattle.std.proofs.Common.{ap, refl, ◌∙◌, List, ℕ}
-use Rattle.rs_program_hex.specs.Views.{due_digits, hex_contents, hex_remaining, output_of}
+use Rattle.rs_program_pipe.specs.Views.{due_digits, hex_contents, hex_remaining, output_of}
 use Rattle.rs_server.specs.Conversation.{start, assigned_of}
 use Rattle.rs_server.specs.Counts.{inner_of}
 use Rattle.rs_server.specs.Moments.{told_by}

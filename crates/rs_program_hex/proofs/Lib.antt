@@ -1,4 +1,0 @@
-pub mod HexDigits
-pub mod LineLemmas
-pub mod BufferLemmas
-pub mod WriterLemmas
