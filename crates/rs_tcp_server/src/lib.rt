@@ -6,14 +6,23 @@
 //! connection may have a limit for how long it is idle, and the log of the handle has a line when each begins and ends, and when the store is
 //! full.
 //!
-//! How clients are served is `run_places` of `rs_places_steps`, and the run of the store is `run_store` of `rs_places`. `rs_tcp_turns` has the
-//! connections. The contracts of this crate do not say what a socket gives or takes, that a thread runs, or that a call returns.
+//! The connections of a client are a [`Turn`](rs_places_turns::Turn): [`ListenTurn`] takes the clients of a listener that all turns share, and
+//! closes each connection in its way. The lines of a full store are those of [`FullLog`].
+//!
+//! How clients are served is `run_places` of `rs_places_steps`, and the run of the store is `run_store` of `rs_places`. The contracts of this
+//! crate do not say what a socket gives or takes, that a thread runs, or that a call returns.
 #![tactic(auto)]
 
+mod close_reason;
 mod fault;
+mod full_log;
 mod opening;
 mod polling;
+mod refused;
 mod server;
+mod turn;
 
 pub use fault::ListenFault;
+pub use full_log::FullLog;
 pub use server::{Server, Summary};
+pub use turn::{ClientWord, ConnectionClock, ListenTurn};

@@ -2,10 +2,11 @@
 
 ghost use Rattle.std.specs.Prelude.{◌≡◌, IfOk, length};
 
+use crate::full_log::FullLog;
+use crate::turn::{ClientWord, ListenTurn};
 use log::Log;
 use rs_message::LineCount;
 use rs_tcp_sockets::Listener;
-use rs_tcp_turns::{ClientWord, FullLog, ListenTurn};
 use std::alloc::{AllocError, Global};
 use std::sync::Arc;
 use std::time::Clock;

@@ -7,8 +7,10 @@ ghost use Rattle.rs_places.specs.Store.{IsStoreRun};
 ghost use Rattle.rs_places_turns.specs.Turns.{Connections};
 
 use crate::fault::ListenFault;
+use crate::full_log::FullLog;
 use crate::opening::turns;
 use crate::polling::time_polls;
+use crate::turn::ClientWord;
 use log::{Log, warn};
 use rs_intake::blank_queue;
 use rs_message::{LineCount, MAX_LINES, PlaceCount};
@@ -16,7 +18,6 @@ use rs_places::run_store;
 use rs_places_pool::Runner;
 use rs_store::TopicLimit;
 use rs_tcp_sockets::{Listener, descriptor_limit, waiting_limit};
-use rs_tcp_turns::{ClientWord, FullLog};
 use rs_tcp_watch::SocketWatch;
 use rs_version::Blank;
 use std::alloc::{AllocError, Global};
