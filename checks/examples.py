@@ -2,7 +2,7 @@
 them.
 
 The program has one time for all packets and one limit of topics, so an example that needs more is
-left to the crate check_examples, which serves all of them. Each one runs in turns, where each reply
+left to the program check_tasks, which serves all of them. Each one runs in turns, where each reply
 has to be there before more is sent, and then as lines of hex digits.
 """
 

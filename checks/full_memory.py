@@ -266,7 +266,7 @@ def a_full_writer_clears():
     def limited():
         resource.setrlimit(resource.RLIMIT_DATA, (WRITER_SPACE, WRITER_SPACE))
 
-    words = [program("check_refusals"), "reserve"]
+    words = [program("check_tasks"), "reserve"]
     options = {"capture_output": True, "text": True, "timeout": PATIENCE}
     run = subprocess.run(words, preexec_fn=limited, **options)
     wanted(run.returncode == 0 and int(run.stdout) > 0, f"{run.stdout!r}, {run.stderr!r} came")

@@ -3,7 +3,7 @@
 Whole sessions go through the program. Each time it must end with status 0, and write the replies
 of a session that was refused memory at one packet, which keeps nothing of that packet and takes it
 when it comes again; or with status 1, write all replies before one or before a packet, and say on
-standard error what failed: never another answer. The program check_refusals does the same with the
+standard error what failed: never another answer. The program check_tasks does the same with the
 calls of a catalogue, of a window, of a store of versions, of the queue to its writer, of clients
 that share a seat, and of a client that is served.
 """
@@ -106,7 +106,7 @@ def sessions(name, steps, least, is_hex, library):
 
 
 def calls(task, least, library, count=1, untold=0):
-    """Runs a task of check_refusals, in which so many allocations in a row fail. It prints how often
+    """Runs a task of check_tasks, in which so many allocations in a row fail. It prints how often
     each kind of call was refused, a number a line.
 
     At least so many runs as `untold` says must have been refused memory in a call that does not
@@ -114,8 +114,8 @@ def calls(task, least, library, count=1, untold=0):
     read.
     """
     refused, unread = Counter(), 0
-    not_read = b"check_refusals: the clock, the words, the input or the output failed\n"
-    words = [program("check_refusals"), task]
+    not_read = b"check_tasks: the clock, the words, the input or the output failed\n"
+    words = [program("check_tasks"), task]
     for at, run, was_refused in in_turn(words, b"", library, count):
         printed = [int(line) for line in run.stdout.split()]
         counts = dict(zip(least, printed))
@@ -126,7 +126,7 @@ def calls(task, least, library, count=1, untold=0):
             continue
         is_unread = at == unread + 1 and run.stderr == not_read
         unread += is_unread
-        is_reported = is_unread or run.stderr == b"check_refusals: out of memory\n"
+        is_reported = is_unread or run.stderr == b"check_tasks: out of memory\n"
         if not (was_refused and run.returncode == 1 and run.stdout == b"" and is_reported):
             shown = f"status {run.returncode}, {run.stdout!r}, {run.stderr!r}"
             sys.exit(f"{task}, allocation {at}: {shown}")

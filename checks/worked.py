@@ -4,7 +4,7 @@ from dataclasses import dataclass, field
 
 from harness.program import crate
 
-FILE = crate("check_examples") / "data" / "examples.txt"
+FILE = crate("check_tasks") / "data" / "examples.txt"
 
 
 @dataclass

@@ -1,4 +1,4 @@
-//! What tests of all crates, and the programs `check_refusals` and `bench_timings`, share. It is a crate of its own so that nothing of it
+//! What tests of all crates, and the programs `check_tasks` and `bench_timings`, share. It is a crate of its own so that nothing of it
 //! stands, and is proved, twice in them.
 //!
 //! - Packets as bytes, streams of which a call fails, and how a fault is shown.

@@ -1,4 +1,4 @@
-//! Why the program ends without success.
+//! Why the examples are not served to their end.
 
 use std::alloc::{AllocError, AllocFailed};
 use std::io;
@@ -16,8 +16,6 @@ pub enum Part {
 
 #[derive(Clone, Copy, Debug, Error)]
 pub enum Problem {
-    #[error("give the path of the file of examples")]
-    Words,
     #[error("the file cannot be read, or the output cannot be written")]
     Io,
     #[error("out of memory")]

@@ -4,7 +4,7 @@ use denote.Param.Send.{arg_send, param_send}
 use Rattle.rs_intake.proofs.Sent.{ended_send}
 use Rattle.rs_intake.proofs.writer.Queue.TheSendSync as queue
 use Rattle.rs_version.proofs.Sent.{parts_send-3, writer_send}
-use Rattle.check_refusals.proofs.groups.start.Goals as goal
+use Rattle.check_tasks.proofs.groups.start.Goals as goal
 
 pub spawn-requires-send-F : goal.spawn-requires-send-F
 spawn-requires-send-F g c κs within =

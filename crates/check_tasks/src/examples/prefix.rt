@@ -1,7 +1,7 @@
 //! `decode` asks for more at each prefix of a packet that is not the whole of it.
 
-use crate::example::{Connection, Example};
-use crate::problem::{Part, Problem};
+use crate::examples::example::{Connection, Example};
+use crate::examples::problem::{Part, Problem};
 use bytes::Bytes;
 use rs_packet::{Decoded, decode, needed_len};
 use std::alloc::Global;

@@ -1,4 +1,4 @@
-use Rattle.check_refusals.proofs.queue.worked.Given as goal
+use Rattle.check_tasks.proofs.queue.worked.Given as goal
 
 -- the store and the queue that were just made
 abbrev pub ghosts-tried-N-StoreName : goal.ghosts-tried-N-StoreName

@@ -1,4 +1,4 @@
-use Rattle.check_refusals.proofs.reserve.work.Given as goal
+use Rattle.check_tasks.proofs.versions.work.Given as goal
 
 -- the store that was just made
 abbrev pub ghosts-tried : goal.ghosts-tried

@@ -1,6 +1,6 @@
 //! The bytes that a line of the file stands for.
 
-use crate::problem::Problem;
+use crate::examples::problem::Problem;
 use hex::FromHexError;
 use std::alloc::Global;
 

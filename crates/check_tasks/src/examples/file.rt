@@ -1,8 +1,8 @@
 //! Reads the file of examples.
 
-use crate::example::{Connection, Example, Stored};
-use crate::problem::Problem;
-use crate::words::{Name, push_line};
+use crate::examples::example::{Connection, Example, Stored};
+use crate::examples::problem::Problem;
+use crate::examples::words::{Name, push_line};
 use rs_server::Served;
 use rs_store::TopicLimit;
 use std::alloc::Global;

@@ -1,6 +1,6 @@
 use Rattle.std.proofs.Common.{◌≡◌, All, false}
 use Rattle.rs_message.specs.Messages.{is_sweep}
-use Rattle.check_refusals.proofs.groups.changes.Given as goal
+use Rattle.check_tasks.proofs.groups.changes.Given as goal
 
 -- none of the changes so far is a Sweep
 abbrev pub invariant-loop-number : goal.invariant-loop-number

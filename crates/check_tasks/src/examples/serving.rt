@@ -1,9 +1,9 @@
 //! Serves an example, cut in every way.
 
-use crate::example::{Connection, Example, Stored};
-use crate::pieces::Pieces;
-use crate::problem::{Part, Problem};
-use crate::replies::Replies;
+use crate::examples::example::{Connection, Example, Stored};
+use crate::examples::pieces::Pieces;
+use crate::examples::problem::{Part, Problem};
+use crate::examples::replies::Replies;
 use rs_server::{ConnectionId, Counted, Moments, ServeFault, Served, serve};
 use rs_session::LocalGate;
 use rs_store::{Catalogue, MapCatalogue};
