@@ -5,7 +5,8 @@ of a session that was refused memory at one packet, which keeps nothing of that 
 when it comes again; or with status 1, write all replies before one or before a packet, and say on
 standard error what failed: never another answer. The program check_tasks does the same with the
 calls of a catalogue, of a window, of a store of versions, of the queue to its writer, of clients
-that share a seat, and of a client that is served.
+that share a seat, and of a client that is served. Without a refusal it looks at 200,000 connections
+as they come back.
 """
 
 import os
@@ -133,8 +134,18 @@ def calls(task, least, library, count=1, untold=0):
     enough(f"{task}, {count} in a row", refused, least | {UNTOLD: untold}, at - 1)
 
 
+def ended():
+    """Serves very many connections without a refusal, each of which must come back as it has to."""
+    words = [program("check_tasks"), "ended"]
+    run = subprocess.run(words, capture_output=True, timeout=PATIENCE)
+    if (run.returncode, run.stdout, run.stderr) != (0, b"200000\n", b""):
+        sys.exit(f"ended: status {run.returncode}, {run.stdout!r}, {run.stderr!r}")
+    print("out of memory: none of 200,000 connections was refused, and each came back as it has to")
+
+
 def main():
     given_words()
+    ended()
     with tempfile.TemporaryDirectory() as folder:
         library = preloaded("failing_malloc", folder)
         for qos in range(3):

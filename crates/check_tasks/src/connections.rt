@@ -10,7 +10,7 @@ use rs_places::run_store;
 use rs_places_pool::{NoWatch, Runner};
 use rs_places_turns::{Connection, EndedConnection, Turn};
 use rs_server::{Clock, Moments, ServeFault, Served, Tally};
-use rs_version::StoreName;
+use rs_version::{StoreName, Told};
 use std::alloc::{AllocError, Global};
 use std::collections::VecDeque;
 use std::io::{Read, Write};
@@ -271,7 +271,11 @@ impl Turn for Publisher {
         Some(connection)
     }
 
-    fn end<N: StoreName>(&mut self, ended: EndedConnection<N, VecDeque<u8>, Vec<u8>, Moments>)
+    fn end<N: StoreName>(
+        &mut self,
+        ended: EndedConnection<VecDeque<u8>, Vec<u8>, Moments>,
+        _told: &Told<N>,
+    )
         ensures { TakesBack none_given
             (ending_of (⟦<VecDeque<u8> as Read>⟧.remaining (inner_of ended.connection.input)) (⟦<Vec<u8> as Write>⟧.contents (inner_of ended.connection.output))
             (⟦<Moments as Clock>⟧.moments ended.connection.clock) (failures_of ended.connection.input) (failures_of ended.connection.output) ended.served)
@@ -283,7 +287,6 @@ impl Turn for Publisher {
             tally,
             place,
             number,
-            ..
         } = ended;
         let none_failed = connection.input.failures() == 0 && connection.output.failures() == 0;
         let output = connection.output.into_inner();

@@ -7,7 +7,8 @@
 //! `tree`, `window`, `versions`, `queue` and `clients` look at what a tree, a window, a store of versions, the queue to its writer and
 //! clients that share a seat show after they were refused memory. Each prints of each kind of call how often it was refused memory, kept
 //! what it owes, and did its work when it was called again: 0 with ample memory. `connections` prints how many connections of a client were
-//! broken off so, and in how many the publication was refused. `reserve` takes all memory itself, and needs a limit of the system.
+//! broken off so, and in how many the publication was refused. `ended` serves 200,000 connections by lanes without a refusal, looks at each as
+//! it comes back, and prints how many they were. `reserve` takes all memory itself, and needs a limit of the system.
 //!
 //! The status is 1 if memory, the words, the file or the output failed or an example differs, 2 for other words, and 3 if a call gave a
 //! wrong answer.
@@ -15,6 +16,7 @@
 
 mod clients;
 mod connections;
+mod ended;
 mod examples;
 mod groups;
 mod queue;
@@ -64,6 +66,7 @@ fn work<H: Wait + Threads + Copy + Send + Sync + 'static>(
     match name {
         "clients" => clients::work(rt, alloc),
         "connections" => connections::work(rt, alloc),
+        "ended" => ended::work(rt, alloc),
         "tree" => tree::work(alloc),
         "queue" => queue::work(rt, alloc),
         "reserve" => reserve::work(rt, alloc),

@@ -7,7 +7,7 @@ ghost use Rattle.rs_places_turns.specs.Turns.{TakesBack, none_given};
 use kit_test::{Behavior, CONNACK, FaultyStream, ServeResult, is_concat};
 use rs_places_turns::{Connection, EndedConnection, Turn};
 use rs_server::{Clock, ServeFault, Served};
-use rs_version::StoreName;
+use rs_version::{StoreName, Told};
 use std::alloc::{AllocError, Global};
 use std::collections::VecDeque;
 use std::io;
@@ -253,7 +253,11 @@ impl Turn for Script {
         })
     }
 
-    fn end<N: StoreName>(&mut self, ended: EndedConnection<N, Input, Output, ScriptClock>)
+    fn end<N: StoreName>(
+        &mut self,
+        ended: EndedConnection<Input, Output, ScriptClock>,
+        told: &Told<N>,
+    )
         ensures { TakesBack none_given
             (ending_of (⟦<Input as Read>⟧.remaining (inner_of ended.connection.input)) (⟦<Output as Write>⟧.contents (inner_of ended.connection.output))
             (⟦<ScriptClock as Clock>⟧.moments ended.connection.clock) (failures_of ended.connection.input) (failures_of ended.connection.output) ended.served)
@@ -265,7 +269,6 @@ impl Turn for Script {
             tally: _,
             place,
             number,
-            told,
         } = ended;
         let (reads, writes) = (connection.input.failures(), connection.output.failures());
         let is_own = place == self.place && number == self.given && is_cause(served, reads, writes);

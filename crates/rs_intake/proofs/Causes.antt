@@ -55,7 +55,7 @@ all_ended places ends are count =
     each_one places f (λ p. (are p).0) (sym all ∙ count)
 
 sum_ones : (n : ℕ) (f : ℕ → ℕ) → ((p : ℕ) → 0 < p → p ≤ n → f p ≡ 1) → sum_to n f ≡ n
-sum_ones zero f ones = refl
+sum_ones zero f ones = omega arith
 sum_ones (suc n) f ones =
     let rest = sum_ones n f (λ p low high. ones p low (omega (arith, high))) in
     let last = ones (suc n) (omega arith) (omega arith) in

@@ -1,5 +1,5 @@
 -- What the writer did so far goes on with each step.
-use Rattle.std.specs.Prelude.{IfSome, Option, None, Some}
+use Rattle.std.specs.Prelude.{IfNone, IfSome, Option, None, Some}
 use Rattle.std.proofs.Common.{◌≡◌, ℕ, ◌+◌, List, [], ◌∷◌, ◌++◌, length, replicate, refl, sym, ap, subst, ◌∙◌, length-append, append-nil, arith}
 use Rattle.rs_message.specs.declared.entry.Entry.{Entry}
 use Rattle.rs_version.specs.Writer.{kept_of}

@@ -221,14 +221,16 @@ impl<T: Turn + Drop, G: LineGate + Drop> EndedClient<T, G> {
         gate.hand_on();
         let line = gate.place();
         let told = gate.told();
-        turn.end(EndedConnection {
-            connection,
-            served: result,
-            tally: Tally { packets, refusals },
-            place: line,
-            number,
-            told,
-        });
+        turn.end(
+            EndedConnection {
+                connection,
+                served: result,
+                tally: Tally { packets, refusals },
+                place: line,
+                number,
+            },
+            &told,
+        );
         FreeClient {
             turn,
             gate,

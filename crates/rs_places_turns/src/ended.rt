@@ -2,11 +2,10 @@
 
 use crate::turn::Connection;
 use rs_server::{Counted, ServeFault, Served, Tally};
-use rs_version::{StoreName, Told};
 
 /// A connection that was served and has ended, as a turn takes it back ([`Turn::end`](crate::Turn::end)).
 #[derive(Drop)]
-pub struct EndedConnection<N: StoreName, R, W, C> {
+pub struct EndedConnection<R, W, C> {
     /// The connection. Its reader and its writer have counted how often they failed.
     pub connection: Connection<Counted<R>, Counted<W>, C>,
     /// How it ended.
@@ -17,6 +16,4 @@ pub struct EndedConnection<N: StoreName, R, W, C> {
     pub place: u16,
     /// Its number among the connections of its place, from 1 on.
     pub number: u64,
-    /// A token of the list that its gate knew last. Each list that it was answered from is a prefix of that.
-    pub told: Told<N>,
 }

@@ -49,16 +49,20 @@ pub trait Turn {
               moments = Self.Time.moments c.clock;
             }) result) (connections self.new) };
 
-    /// Takes back the connection that it gave last, which was served and has ended.
+    /// Takes back the connection that it gave last, which was served and has ended, with a token of the list that its gate knew last.
     ///
     /// Whoever calls it owes what is known of a connection at its end (`HasEnded`), also in a run that never ends: it was served under its
-    /// number, over the bytes and times that this turn gave it, if these are told, and each list that it was answered from is a prefix of that
-    /// of its token.
-    fn end<N: StoreName>(&mut self, ended: EndedConnection<N, Self::In, Self::Out, Self::Time>)
+    /// number, over the bytes and times that this turn gave it, if these are told, and each list that it was answered from is a prefix of the
+    /// token's.
+    fn end<N: StoreName>(
+        &mut self,
+        ended: EndedConnection<Self::In, Self::Out, Self::Time>,
+        told: &Told<N>,
+    )
         requires { HasEnded N.limit ended.place ended.number (connections self.old).out
             (ending_of (Self.In.remaining (inner_of ended.connection.input)) (Self.Out.contents (inner_of ended.connection.output))
             (Self.Time.moments ended.connection.clock) (failures_of ended.connection.input) (failures_of ended.connection.output) ended.served)
-            ended.told }
+            told.now }
         ensures { TakesBack (connections self.old)
             (ending_of (Self.In.remaining (inner_of ended.connection.input)) (Self.Out.contents (inner_of ended.connection.output))
             (Self.Time.moments ended.connection.clock) (failures_of ended.connection.input) (failures_of ended.connection.output) ended.served)

@@ -11,7 +11,7 @@ use log::{Log, info};
 use rs_places_turns::{Connection, EndedConnection, Turn};
 use rs_server::Tally;
 use rs_tcp_sockets::{Accepted, FromClient, Listener, SystemClock, ToClient, abandon, close};
-use rs_version::StoreName;
+use rs_version::{StoreName, Told};
 use std::alloc::Global;
 use std::fmt;
 use std::fmt::{Display, Formatter};
@@ -165,7 +165,8 @@ impl<H: Clock + Log + Copy + Send> Turn for ListenTurn<H> {
     /// Closes the connection, as [`abandon`] does if it failed, else as [`close`].
     fn end<N: StoreName>(
         &mut self,
-        ended: EndedConnection<N, FromClient, ToClient, ConnectionClock<H>>,
+        ended: EndedConnection<FromClient, ToClient, ConnectionClock<H>>,
+        _told: &Told<N>,
     )
         ensures { TakesBack none_given
             (ending_of (⟦<FromClient as Read>⟧.remaining (inner_of ended.connection.input)) (⟦<ToClient as Write>⟧.contents (inner_of ended.connection.output))

@@ -1,6 +1,6 @@
 //! Runs of a journal, and what has to be found after them.
 
-use kit_message::{clear, set_at};
+use kit_test::{clear, set_at};
 use rs_journal::{Journal, OperationSink, WriteFault};
 use rs_journal_record::put_record;
 use rs_message::Operation;

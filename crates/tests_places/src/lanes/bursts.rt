@@ -1,8 +1,8 @@
 //! Bursts: what a client sends in one piece is answered as if each packet came alone, whoever serves it.
 
-use super::lanes;
-use super::memory::Manner;
-use kit_places::{Counts, Course, PLAIN, Played, Script, as_wanted, ending, later, run};
+use kit_places::{
+    Counts, Course, Manner, PLAIN, Played, Script, as_wanted, ending, lanes, later, run,
+};
 use kit_test::{Behavior, CONNACK, CONNECT, Call, ServeResult};
 use rs_places_pool::{NoWatch, Runner};
 use rs_server::{ServeFault, Served};

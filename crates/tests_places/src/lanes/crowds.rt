@@ -1,11 +1,9 @@
 //! Crowds of clients, as many as there are lanes or seats, or more, or fewer. However they are told of, all are served, and one that waits
 //! holds up no other.
 
-use super::lanes;
-use super::memory::Manner;
 use kit_places::{
-    Counts, Course, NONE, PLAIN, PUBLISHES, Played, Script, as_wanted, assigned, later, plain_row,
-    put_rows, run, scripts,
+    Counts, Course, Manner, NONE, PLAIN, PUBLISHES, Played, Script, as_wanted, assigned, lanes,
+    later, plain_row, put_rows, run, scripts,
 };
 use kit_test::concat;
 use rs_topic::MAX_LEVELS;

@@ -1,119 +1,21 @@
 //! What turns are told of each connection that has ended, of very many.
 
-ghost use Rattle.rs_server.specs.Counts.{failures_of, inner_of};
-ghost use Rattle.rs_places_turns.specs.Ended.{ending_of};
-ghost use Rattle.rs_places_turns.specs.Turns.{TakesBack, none_given};
-
-use super::lanes;
-use super::memory::Manner;
-use kit_places::{Counts, as_wanted, run};
-use kit_test::{CONNACK, CONNECT, concat, is_concat};
-use rs_places_turns::{Connection, EndedConnection, Turn};
-use rs_server::{Clock, Moments, Served};
-use rs_version::StoreName;
-use std::alloc::{AllocError, Global};
-use std::collections::VecDeque;
-use std::io::{Read, Write};
+use kit_places::{Counts, Manner, as_wanted, lanes, publishers, run};
 use std::sync::Arc;
-use std::sync::atomic::Ordering;
 use std::test::Fail;
 
-/// How many clients there are, and how many connections each has.
+/// How many clients there are, and how many connections each has. `check_tasks ended` has ten times as many.
 const CLIENTS: u16 = 8;
 
 const EACH: u64 = 2_500;
 
-/// A retained publication of QoS 1, and its PUBACK.
-const PUBLISH: &[u8] = b"\x33\x07\x00\x01a\x01\x01\x00x";
-
-const PUBACK: &[u8] = b"\x40\x02\x01\x01";
-
-const DISCONNECT: &[u8] = b"\xE0\x00";
-
-/// Gives a client of this place connections that each publish a message.
-#[derive(Drop)]
-struct Publisher {
-    alloc: Global,
-    counts: Arc<Counts>,
-    place: u16,
-    given: u64,
-    /// How many entries there were when its last connection had ended.
-    version: u64,
-}
-
-/// A connection in memory.
-type Played = Connection<VecDeque<u8>, Vec<u8>, Moments>;
-
-impl Publisher {
-    /// Its next connection.
-    fn connection(&self) -> Result<Played, AllocError> {
-        let sent = concat(self.alloc, &[CONNECT, PUBLISH, DISCONNECT])?;
-        Ok(Connection {
-            input: VecDeque::from_vec(sent),
-            output: Vec::new(self.alloc),
-            clock: Moments::new(0, Vec::new(self.alloc)),
-        })
-    }
-}
-
-impl Turn for Publisher {
-    type In = VecDeque<u8>;
-
-    type Out = Vec<u8>;
-
-    type Time = Moments;
-
-    fn next(&mut self) -> Option<Played> {
-        if self.given == EACH {
-            return None;
-        }
-        let connection = self.connection().ok()?;
-        self.given = self.given.saturating_add(1);
-        Some(connection)
-    }
-
-    fn end<N: StoreName>(&mut self, ended: EndedConnection<N, VecDeque<u8>, Vec<u8>, Moments>)
-        ensures { TakesBack none_given
-            (ending_of (⟦<VecDeque<u8> as Read>⟧.remaining (inner_of ended.connection.input)) (⟦<Vec<u8> as Write>⟧.contents (inner_of ended.connection.output))
-            (⟦<Moments as Clock>⟧.moments ended.connection.clock) (failures_of ended.connection.input) (failures_of ended.connection.output) ended.served)
-            none_given }
-    {
-        let EndedConnection {
-            connection,
-            served,
-            tally,
-            place,
-            number,
-            told,
-        } = ended;
-        let is_told = served == Ok(Served::ClientClosed) && tally.packets == 3;
-        let output = connection.output.into_inner();
-        let is_last = place == self.place && number == self.given;
-        // It knew its own entry, which no connection before it knew.
-        let is_newer = told.version() > self.version;
-        self.version = told.version();
-        if is_last && is_newer && is_told && is_concat(&output, &[CONNACK, PUBACK]) {
-            self.counts.right.fetch_add(1, Ordering::SeqCst);
-        }
-    }
-}
-
 /// Each of 20,000 connections comes back to the turn that gave it, under the next number, with its replies, how it ended and a token of a
-/// list that holds its publication.
+/// longer list each time.
 #[test]
 fn each_connection_comes_back(rt: HostRuntime) -> Result<(), Fail> {
     let alloc = rt.alloc();
     let counts = Arc::new(alloc, Counts::new())?;
-    let mut turns = Vec::new(alloc);
-    for place in 1..=CLIENTS {
-        turns.push(Publisher {
-            alloc,
-            counts: Arc::try_clone(&counts)?,
-            place,
-            given: 0,
-            version: 0,
-        })?;
-    }
+    let turns = publishers(alloc, &counts, CLIENTS, EACH)?;
     let two = lanes(rt, alloc, 2, Manner::InOrder)?;
     let ran = run(rt, alloc, (1, 2), turns, &counts, two)?;
     let all = EACH.saturating_mul(u64::from(CLIENTS));

@@ -14,7 +14,7 @@ use rs_places::{StoreEnd, run_store};
 use rs_places_pool::{NoWatch, Runner};
 use rs_places_turns::{Connection, EndedConnection, StoreFault, Turn};
 use rs_server::{Clock, Moments, Refusals, ServeFault, Served};
-use rs_version::{Blank, StoreName};
+use rs_version::{Blank, StoreName, Told};
 use std::alloc::{AllocError, Global};
 use std::collections::VecDeque;
 use std::io::{Read, Write};
@@ -81,7 +81,11 @@ impl Turn for Listed {
         next
     }
 
-    fn end<N: StoreName>(&mut self, ended: EndedConnection<N, VecDeque<u8>, Vec<u8>, Moments>)
+    fn end<N: StoreName>(
+        &mut self,
+        ended: EndedConnection<VecDeque<u8>, Vec<u8>, Moments>,
+        _told: &Told<N>,
+    )
         ensures { TakesBack (⟦<Listed as Turn>⟧.connections self.old)
             (ending_of (⟦<VecDeque<u8> as Read>⟧.remaining (inner_of ended.connection.input)) (⟦<Vec<u8> as Write>⟧.contents (inner_of ended.connection.output))
             (⟦<Moments as Clock>⟧.moments ended.connection.clock) (failures_of ended.connection.input) (failures_of ended.connection.output) ended.served)

@@ -1,5 +1,6 @@
 use Rattle.std.proofs.Common.{◌+◌, ℕ, List, length, refl, ap, subst, ◌∙◌, arith}
 use Rattle.rs_intake.specs.Causes.{HaveEnded}
+use Rattle.rs_intake.specs.Writers.{WriterValue}
 use Rattle.rs_intake.proofs.Causes.{all_ended, few_ends, none_to_end}
 use Rattle.rs_intake.proofs.Writers.{ended_cause, job_put, last_end, more_to_end, no_cause, no_end, none_asked, one_end, under_way_same}
 use Rattle.rs_intake.proofs.writer.JobWriter.step.Goals as goal
@@ -70,7 +71,9 @@ pub returns-in-Ok-Put-clause-more : goal.returns-in-Ok-Put-clause-more
 returns-in-Ok-Put-clause-more g c =
     let e = c.in-Ok-Put.ensures in
     let same = no_end c.self.inside.received.ends c.next.new.self.ends _ c.in-Ok-Put.changes e.ended.0 c.in-Ok-Put.field-0-is in
-    subst (HaveEnded g.N.LineName.places) same
+    let was = ap (λ (w : WriterValue). w.received.ends) c.self.view_is in
+    let E : List ℕ → Type 0 = λ l. HaveEnded g.N.LineName.places l in
+    λ (ended : E c.next.new.self.ends). subst E was (subst E same ended)
 
 pub returns-after-self-eq0-clause-more : goal.returns-after-self-eq0-clause-more
 returns-after-self-eq0-clause-more g c =
@@ -79,8 +82,8 @@ returns-after-self-eq0-clause-more g c =
     let few = few_ends g.N.LineName.places c.next.new.self.ends e.1 in
     let all = c.self.invariant.2 in
     elim c.if-self-eq0.branch [
-      | then-self-eq0 w ↦ last_end g.N.LineName.places c.self.inside.received.ends c.next.new.self.ends _ w.result-is
+      | then-self-eq0 w ↦ last_end g.N.LineName.places c.args.self.now.received.ends c.next.new.self.ends _ w.result-is
       | else-self-eq0 w ↦
           let left = w.if-self-eq0.false in
-          more_to_end g.N.LineName.places c.self.inside.received.ends c.next.new.self.ends _ w.result-is (λ ended. let whole = none_to_end g.N.LineName.places c.next.new.self.ends e.1 ended in absurd (omega (arith, more, few, left, all, whole)))
+          more_to_end g.N.LineName.places c.args.self.now.received.ends c.next.new.self.ends _ w.result-is (λ ended. let whole = none_to_end g.N.LineName.places c.next.new.self.ends e.1 ended in absurd (omega (arith, more, few, left, all, whole)))
     ]

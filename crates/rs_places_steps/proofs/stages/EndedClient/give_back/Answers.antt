@@ -9,7 +9,7 @@ end-requires g c =
     let now = handed_on g.G.Gate.stands g.G.Gate.mark g.G.Gate.pending g.G.StoreGate.shared g.G.Name.StoreName.limit g.G.Gate.most law.knows law.same_mark law.same_pending law.same_most
     (place_of g.T.Turn.connections g.G.StoreGate.shared c.self.inside.begun) c.self.inside.number (g.T.Turn.connections c.self.inside.turn) _ c.self.inside.gate
     c.into_parts-gate.result.0 (g.G.StoreGate.shared c.hand_on.new.self) c.self.inside.result _ _ c.self.invariant c.into_parts-gate.ensures.gate c.hand_on.ensures.known c.hand_on.ensures.mark c.hand_on.ensures.pending in
-    ended_known _ _ _ _ _ _ _ _ _ c.self.invariant.next.so_far.pending now c.self.invariant.next.gives.out c.place-line.ensures c.told.ensures.told
+    ended_known _ _ _ _ _ _ _ _ _ c.self.invariant.next.so_far.pending now c.self.invariant.next.gives.out c.place-line.ensures c.told-told.ensures.told
 
 pub invariant_of-result : goal.invariant_of-result
 invariant_of-result g c =

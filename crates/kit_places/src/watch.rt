@@ -3,7 +3,7 @@
 
 ghost use Rattle.std.specs.Prelude.{◌≡◌, ◌≤◌, length, IfSome};
 
-use rs_places_pool::Watch;
+use rs_places_pool::{Runner, Watch};
 use std::alloc::{AllocError, Global};
 use std::collections::VecDeque;
 use std::io::Read;
@@ -12,7 +12,7 @@ use std::thread::yield_now;
 
 /// How clients are told of.
 #[derive(Clone, Copy, Debug, PartialEq, Eq)]
-pub(crate) enum Manner {
+pub enum Manner {
     /// Each in its lane, in the order in which they were watched.
     InOrder,
     /// Each in its lane, but late, and the last one first.
@@ -47,14 +47,14 @@ struct Lane {
 
 /// Tells of each client that is watched, in its manner.
 #[derive(Drop)]
-pub(crate) struct MemoryWatch<H: Wait + Copy> {
+pub struct MemoryWatch<H: Wait + Copy> {
     rt: H,
     lanes: Vec<Lane>,
     manner: Manner,
 }
 
 impl<H: Wait + Copy> MemoryWatch<H> {
-    pub(crate) fn new(
+    pub fn new(
         rt: H,
         alloc: Global,
         lanes: usize,
@@ -171,4 +171,20 @@ impl<H: Wait + Copy, I: Read> Watch<I> for MemoryWatch<H> {
             lane.came.notify_all();
         }
     }
+}
+
+/// So many lanes, whose clients are told of in this manner.
+///
+/// # Errors
+///
+/// [`AllocError`] if memory is refused.
+pub fn lanes<R: Wait + Copy>(
+    rt: R,
+    alloc: Global,
+    lanes: u8,
+    manner: Manner,
+) -> Result<Runner<MemoryWatch<R>>, AllocError> {
+    let lanes = usize::from(lanes);
+    let watch = MemoryWatch::new(rt, alloc, lanes, manner)?;
+    Ok(Runner::Lanes { lanes, watch })
 }
