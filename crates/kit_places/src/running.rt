@@ -1,5 +1,8 @@
 //! A run of a store over connections from memory.
 
+ghost use Rattle.std.specs.Prelude.{All, None};
+ghost use Rattle.rs_places_turns.specs.Turns.{IsOut};
+
 use crate::rows::{Row, put_rows, scripts};
 use crate::script::Counts;
 use kit_test::blank_store;
@@ -67,6 +70,7 @@ where
     T::In: Send + 'static,
     T::Out: Send + 'static,
     T::Time: Send + 'static,
+    requires { All (λ turn. IsOut None (T.connections turn).out) turns.items }
 {
     let count = turns.len();
     if count > usize::from(MAX_LINES) {

@@ -1,10 +1,11 @@
 //! A whole store: its writer on a thread of its own, and its clients, each with a line of its own, from the first connection to the
 //! settlement.
 
-ghost use Rattle.std.specs.Prelude.{◌≡◌, [], IfOk, All, List, length, map};
+ghost use Rattle.std.specs.Prelude.{◌≡◌, [], IfOk, All, List, None, length, map};
 ghost use Rattle.rs_message.specs.declared.entry.Entry.{Entry};
 ghost use Rattle.rs_places.specs.Gates.{handed_on};
 ghost use Rattle.rs_places.specs.Store.{IsStoreRun, gates_of};
+ghost use Rattle.rs_places_turns.specs.Turns.{IsOut};
 ghost use Rattle.rs_version.specs.Writer.{kept_of};
 
 use crate::seats::Seats;
@@ -141,8 +142,9 @@ fn start_writer<
 }
 
 /// Runs a store that is empty at first: serves a turn for each client, as [`run_places`] does with this runner, with the writer on a thread
-/// of its own, and settles. Each client has a line of its own, whose number is its place: the first turn goes with place 1, and so on. The
-/// clients read by the seats of `blank`. If there are as many as clients, each has one, and otherwise they share them.
+/// of its own, and settles. No connection of a turn is out. Each client has a line of its own, whose number is its place: the first turn
+/// goes with place 1, and so on. The clients read by the seats of `blank`. If there are as many as clients, each has one, and otherwise
+/// they share them.
 ///
 /// The contract is one statement about the run, `IsStoreRun`: there is one legal history, which came to be by the outcomes of the
 /// entries that the writer took, all from these places, and published, but for its last entry, if that is held; all lists that any
@@ -170,7 +172,8 @@ where
     T::In: Send + 'static,
     T::Out: Send + 'static,
     T::Time: Send + 'static,
-    requires { queue.places ≡ length turns.items }
+    requires turns { queue.places ≡ length turns.items }
+    requires free { All (λ turn. IsOut None (T.connections turn).out) turns.items }
     ensures { IfOk result (λ end. IsStoreRun blank.limit queue.places (map T.connections turns.items)
         (map T.connections end.turns.items) end.version end.changes end.cause) }
 {
@@ -197,6 +200,7 @@ where
     requires store { (blank.history ≡ N.history) × (blank.limit ≡ N.limit) }
     requires queue { (queue.name ≡ N.queue) × (queue.places ≡ N.places) }
     requires turns { queue.places ≡ length turns.items }
+    requires free { All (λ turn. IsOut None (T.connections turn).out) turns.items }
     ensures { IfOk result (λ end. IsStoreRun blank.limit queue.places (map T.connections turns.items)
         (map T.connections end.turns.items) end.version end.changes end.cause) }
 {

@@ -1,8 +1,9 @@
 //! The clients of a store, served in steps until all are done.
 
-ghost use Rattle.std.specs.Prelude.{◌≡◌, ◌≤◌, [], length, map, vec_capacity, IfOk};
+ghost use Rattle.std.specs.Prelude.{◌≡◌, ◌≤◌, [], All, length, map, vec_capacity, IfOk, None};
 ghost use Rattle.std.specs.List.{AllZip};
 ghost use Rattle.rs_places_turns.specs.Places.{IsPlaceServed, left_at, places_of};
+ghost use Rattle.rs_places_turns.specs.Turns.{IsOut};
 ghost use Rattle.rs_places_turns.specs.Visits.{place_at};
 ghost use Rattle.rs_places_steps.specs.Begins.{place_of};
 
@@ -24,6 +25,7 @@ fn make_task<T: Turn + Drop, G: LineGate + Drop>(
     turn: T,
     gate: FreeGate<G>,
 ) -> Result<(Task<T, G>, ClientEnd<T, G>), AllocError>
+    requires { IsOut None (T.connections turn).out }
     ensures { IfOk result (λ made. place_of T.connections G.shared made.1.begun ≡ place_at (T.connections turn) gate) }
 {
     let gate = gate.into_gate();
@@ -37,6 +39,7 @@ fn make_tasks<T: Turn + Drop, G: LineGate + Drop>(
     turns: Vec<T>,
     gates: Vec<FreeGate<G>>,
 ) -> Result<(Vec<Task<T, G>>, Vec<ClientEnd<T, G>>), AllocError>
+    requires { All (λ turn. IsOut None (T.connections turn).out) turns.items }
     ensures { IfOk result (λ made. map (λ end. place_of T.connections G.shared end.begun) made.1.items
         ≡ places_of (map T.connections turns.items) gates.items) }
 {
@@ -109,7 +112,8 @@ where
 }
 
 /// Serves the clients of a store until all are done, by the threads of `runner`. The first turn goes with the first gate, and so on: these
-/// are a client, and the line's number is its place. A turn without a gate is dropped, and so is a gate without a turn.
+/// are a client, and the line's number is its place. A turn without a gate is dropped, and so is a gate without a turn. No connection of a
+/// turn is out.
 ///
 /// A client's connections are served one after the other. They are numbered from 1 on; a number that is `u64::MAX` stays. Each is given back
 /// to the turn, with how it ended, once the gate is handed on ([`LineGate::hand_on`]). When the turn has no more, the gate is closed. The
@@ -151,6 +155,7 @@ where
     T::Time: Send + 'static,
     G::Name: Send + Sync + 'static,
     G::End: Send + 'static,
+    requires { All (λ turn. IsOut None (T.connections turn).out) turns.items }
     ensures { IfOk result (λ end. AllZip (IsPlaceServed G.Name.limit) (places_of (map T.connections turns.items) gates.items)
         (map (λ end. left_at (T.connections end.turn) end.told (G.closed end.line)) end.ends.items)) }
 {

@@ -3,7 +3,8 @@
 ghost use Rattle.std.specs.Option.{option_map};
 ghost use Rattle.rs_server.specs.Counts.{failures_of, inner_of};
 ghost use Rattle.rs_places_turns.specs.Ended.{HasEnded, ending_of};
-ghost use Rattle.rs_places_turns.specs.Turns.{GivesNext, TakesBack};
+ghost use Rattle.std.specs.Prelude.{None};
+ghost use Rattle.rs_places_turns.specs.Turns.{GivesNext, IsOut, TakesBack};
 
 use crate::ended::EndedConnection;
 use rs_server::Clock;
@@ -41,7 +42,10 @@ pub trait Turn {
     ghost connections: { Self → Connections } = { λ _. none_given };
 
     /// The next connection of the place. `None` if there are no more; then it is not asked again.
+    ///
+    /// No connection is out: whoever served the one before has given it back ([`end`](Turn::end)), with what is owed for that.
     fn next(&mut self) -> Option<Connection<Self::In, Self::Out, Self::Time>>
+        requires { IsOut None (connections self.old).out }
         ensures { GivesNext (connections self.old)
             (option_map (λ c. record {
               unread = Self.In.remaining c.input;

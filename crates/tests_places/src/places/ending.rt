@@ -1,6 +1,7 @@
 //! A queue that ends: each change is refused then, and filters are still answered.
 
-ghost use Rattle.std.specs.Prelude.{◌≡◌};
+ghost use Rattle.std.specs.Prelude.{◌≡◌, All, None};
+ghost use Rattle.rs_places_turns.specs.Turns.{IsOut};
 
 use kit_places::{
     CLOSED, Counts, PUBLISHES, SUBSCRIBES, Script, comes, ending, later, plain_row, put_rows,
@@ -77,6 +78,7 @@ where
     T::Time: Send + 'static,
     requires store { (blank.history ≡ N.history) × (blank.limit ≡ N.limit) }
     requires queue { (queue.name ≡ N.queue) × (queue.places ≡ N.places) }
+    requires free { All (λ turn. IsOut None (T.connections turn).out) turns.items }
 {
     let (writer, seats) = blank.open::<N, R>(rt)?;
     let (intake, lines, queue) = queue.open::<N>()?;
@@ -99,6 +101,7 @@ where
     T::In: Send + 'static,
     T::Out: Send + 'static,
     T::Time: Send + 'static,
+    requires { All (λ turn. IsOut None (T.connections turn).out) turns.items }
 {
     let places = PlaceCount::new(64).ok_or("64 places")?;
     let blank = blank_store(alloc, 10, places)?;

@@ -1,9 +1,9 @@
 //! A run over turns whose connections are known.
 
-ghost use Rattle.std.specs.Prelude.{◌≡◌, All, IfOk, is_some, length, map, true};
+ghost use Rattle.std.specs.Prelude.{◌≡◌, All, IfOk, None, is_some, length, map, true};
 ghost use Rattle.rs_server.specs.Counts.{failures_of, inner_of};
 ghost use Rattle.rs_places_turns.specs.Ended.{ending_of};
-ghost use Rattle.rs_places_turns.specs.Turns.{TakesBack};
+ghost use Rattle.rs_places_turns.specs.Turns.{IsOut, TakesBack};
 ghost use Rattle.tests_places.specs.Answered.{AreAnswered};
 
 use kit_places::{NONE, PUBLISHES, SUBSCRIBES};
@@ -140,6 +140,7 @@ where
     T::Out: Send + 'static,
     T::Time: Send + 'static,
     requires turns { queue.places ≡ length turns.items }
+    requires free { All (λ turn. IsOut None (T.connections turn).out) turns.items }
     requires known { All (λ turn. is_some (T.connections turn).waiting ≡ true) turns.items }
     ensures { IfOk result (λ end. AreAnswered blank.limit (map T.connections turns.items) (map T.connections end.turns.items) end.version) }
 {
@@ -158,7 +159,9 @@ fn played(alloc: Global, input: &[u8]) -> Result<Played, AllocError> {
 }
 
 /// A place with these connections.
-fn place_of(alloc: Global, waiting: Vec<Played>) -> Listed {
+fn place_of(alloc: Global, waiting: Vec<Played>) -> Listed
+    ensures { result.out.value ≡ None }
+{
     Listed {
         waiting: VecDeque::from_vec(waiting),
         out: Snapshot::of(&None),
@@ -193,7 +196,8 @@ fn is_closed(outcome: &Outcome) -> bool {
 
 /// A place that publishes and then reads it back, and one whose client reads what it can.
 fn known_turns(alloc: Global) -> Result<Vec<Listed>, AllocError>
-    ensures { IfOk result (λ turns. length turns.items ≡ 2) }
+    ensures count { IfOk result (λ turns. length turns.items ≡ 2) }
+    ensures free { IfOk result (λ turns. All (λ turn. turn.out.value ≡ None) turns.items) }
 {
     let publishes = played(alloc, PUBLISHES)?;
     let reads = played(alloc, SUBSCRIBES)?;
@@ -237,7 +241,8 @@ const FILLS: &[u8] = b"\x31\x07\x00\x03a/b\x00x\x31\x07\x00\x03a/c\x00x\x31\x07\
 
 /// A place whose first client sends this, and whose next one reads.
 fn filling_turn(alloc: Global) -> Result<Vec<Listed>, AllocError>
-    ensures { IfOk result (λ turns. length turns.items ≡ 1) }
+    ensures count { IfOk result (λ turns. length turns.items ≡ 1) }
+    ensures free { IfOk result (λ turns. All (λ turn. turn.out.value ≡ None) turns.items) }
 {
     let sent = concat(alloc, &[CONNECT, FILLS])?;
     let fills = played(alloc, sent.as_slice())?;

@@ -8,12 +8,22 @@ pub loop-turn-preserved : goal.loop-turn-preserved
 loop-turn-preserved g c =
     let i = c.loop-turn.invariant in
     let steps = c.in-Some.ensures.steps in
+    let F = λ l. AllByRecursion (λ turn. IsOut None (g.T.Turn.connections turn).out) l in
     let first = next_place g.T.Turn.connections _ _ _ _ _ _ steps.0.0 steps.1.0 in
     record {
       made = made_more _ _ _ _ _ _ _ _ c.push_reserved-in-loop-turn.ensures.items c.in_ok-task.ensures first i.made;
+      free = (subst F steps.0.0 i.free).1;
       fits = omega (arith, i.fits, length_more _ _ _ c.push_reserved.ensures.items, c.push_reserved.ensures.capacity, ap length steps.1.0);
       fits_too = omega (arith, i.fits_too, length_more _ _ _ c.push_reserved-in-loop-turn.ensures.items, c.push_reserved-in-loop-turn.ensures.capacity, ap length steps.1.0);
     }
+
+pub make_task-requires : goal.make_task-requires
+make_task-requires g c =
+    let F = λ l. AllByRecursion (λ turn. IsOut None (g.T.Turn.connections turn).out) l in
+    (subst F c.in-Some.ensures.steps.0.0 c.loop-turn.invariant.free).0
+
+pub loop-turn-entry : goal.loop-turn-entry
+loop-turn-entry g c = c
 
 pub returns : goal.returns
 returns g c =

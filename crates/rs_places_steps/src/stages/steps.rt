@@ -1,28 +1,31 @@
 //! The steps by which a client is served, whichever thread makes them.
 
-ghost use Rattle.std.specs.Prelude.{◌≡◌, []};
+ghost use Rattle.std.specs.Prelude.{◌≡◌, List, None, []};
 ghost use Rattle.rs_session.specs.State.{gate_of};
 ghost use Rattle.rs_server.specs.Counts.{failures_of, inner_of};
 ghost use Rattle.rs_server.specs.Serving.{session_of};
+ghost use Rattle.rs_message.specs.declared.entry.Entry.{Entry};
+ghost use Rattle.rs_server.specs.Refusals.{gate_of as counted_gate};
 ghost use Rattle.rs_places_turns.specs.Places.{IsPlaceServed, left_at};
+ghost use Rattle.rs_places_turns.specs.Shared.{HandsOn, operations_of};
+ghost use Rattle.rs_places_turns.specs.Turns.{IsOut};
 ghost use Rattle.rs_places_steps.specs.Begins.{place_of};
 ghost use Rattle.rs_places_steps.specs.Steps.{WasServed, counted_view};
 ghost use Rattle.rs_places_steps.specs.Stages.{IsNext, IsReadOrEnded, IsServedOrEnded, begun_of};
 
+use super::{Connected, DoneClient, EndedClient, FreeClient, ReadClient, ServedClient, Stage};
 use crate::begun::Begun;
-use crate::stages::{
-    Connected, DoneClient, EndedClient, FreeClient, ReadClient, ServedClient, Stage,
-};
 use rs_places_pool::Watch;
 use rs_places_turns::{Connection, EndedConnection, LineGate, PlaceEnd, Turn};
-use rs_server::{ConnectionId, Counted, CountedGate, ServeFault, Served, Serving, Tally};
+use rs_server::{ConnectionId, Counted, CountedGate, Refusals, ServeFault, Served, Serving, Tally};
 use std::alloc::Global;
 use std::sync::Wait;
 
 impl<T: Turn + Drop, G: LineGate + Drop> FreeClient<T, G> {
     /// A client of this turn and this gate. Its connections are numbered from 1 on.
     pub(crate) fn new(turn: T, gate: G) -> FreeClient<T, G>
-        requires { (G.shared gate).pending ≡ [] }
+        requires free { IsOut None (T.connections turn).out }
+        requires pending { (G.shared gate).pending ≡ [] }
         ensures turn { result.turn.value ≡ turn }
         ensures gate { result.gate.value ≡ gate }
     {
@@ -203,6 +206,18 @@ impl<T: Turn + Drop, G: LineGate + Drop> ReadClient<T, G> {
     }
 }
 
+/// The gate, which is handed on, and what it refused.
+fn hand_on<G: LineGate>(counted: CountedGate<G>) -> (G, Refusals)
+    ensures known { (G.shared result.0).known ≡ (G.shared (counted_gate counted)).known }
+    ensures mark { (tail : List Entry) × HandsOn (G.shared (counted_gate counted)).mark tail (G.shared result.0).mark
+        × (operations_of tail ≡ (G.shared (counted_gate counted)).pending) }
+    ensures pending { (G.shared result.0).pending ≡ [] }
+{
+    let (mut gate, refusals) = counted.into_parts();
+    gate.hand_on();
+    (gate, refusals)
+}
+
 impl<T: Turn + Drop, G: LineGate + Drop> EndedClient<T, G> {
     /// Hands the gate on, and gives the connection back to the turn, with a token of what its gate knows then.
     pub(crate) fn give_back(self) -> FreeClient<T, G>
@@ -217,8 +232,7 @@ impl<T: Turn + Drop, G: LineGate + Drop> EndedClient<T, G> {
             result,
             packets,
         } = self;
-        let (mut gate, refusals) = gate.into_parts();
-        gate.hand_on();
+        let (gate, refusals) = hand_on(gate);
         let line = gate.place();
         let told = gate.told();
         turn.end(
