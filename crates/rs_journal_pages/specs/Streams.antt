@@ -3,7 +3,7 @@ use Rattle.std.specs.Prelude.{◌≡◌, ℕ, ◌+◌, List, [], ◌++◌, IsTru
 use Rattle.sqlite_disk.specs.declared.Disk.{Ghosts}
 use Rattle.sqlite_wal.specs.Recovery.{Image, AddsNothing}
 use Rattle.sqlite_wal.specs.State.{Keeps as KeepsState}
-use Rattle.sqlite_pager.specs.Pager.{files, state, visible, image as pages_image, AreUsable as AreUsablePages}
+use Rattle.sqlite_pager.specs.Pager.{files, state, visible, log_frames, image as pages_image, AreUsable as AreUsablePages, HasSpilled as HasSpilledPages}
 use Rattle.rs_journal_pages.specs.declared.stream.PageStream.{PageStream}
 use Rattle.rs_journal_pages.specs.Pages.{HasStream, joined, page_size, part_in}
 use Rattle.rs_journal_pages.specs.Images.{Keeps}
@@ -40,6 +40,14 @@ module _ {D : Type 0} {g : Ghosts D} where
   -- how many pages it has
   abbrev pub page_count : PageStream D g → ℕ
   page_count it = it.seen.count
+
+  -- how many pages the log has
+  abbrev pub log_len : PageStream D g → ℕ
+  log_len it = log_frames it.pager
+
+  -- some of the pages in the log are not committed
+  abbrev pub HasSpilled : PageStream D g → Type 0
+  HasSpilled it = HasSpilledPages it.pager
 
   -- what a page of the stream that is seen has of it
   abbrev pub part_at : PageStream D g → ℕ → List ℕ

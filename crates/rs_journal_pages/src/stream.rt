@@ -12,6 +12,9 @@ use sqlite_disk::{Disk, Files};
 use sqlite_pager::{Error, Options, PageSize, Pager};
 use std::alloc::{AllocFailed, Global};
 
+/// So many pages in the log are a reason to copy them: they take some ten milliseconds.
+pub(crate) const LONG_LOG: u32 = 4000;
+
 /// A stream of bytes in two files. What is pushed is seen at once, and stands from the commit on.
 #[derive(Drop)]
 pub struct PageStream<D: Disk> {
@@ -24,6 +27,8 @@ pub struct PageStream<D: Disk> {
     pub(crate) tail: Vec<u8>,
     /// Where a page is formed.
     pub(crate) page: Vec<u8>,
+    /// How many pages went to the log since it was copied, or `LONG_LOG` while that is not known.
+    pub(crate) logged: u32,
     ghost sized: { (state pager).page_size ≡ page_size },
     ghost short: { length tail.items ≤ part_size },
 }
@@ -47,7 +52,7 @@ fn put_page<D: Disk>(pager: &mut Pager<D>, at: u32, page: &[u8]) -> Result<(), E
 
 impl<D: Disk> PageStream<D> {
     ghost use Rattle.rs_journal_pages.specs.Images.{Keeps as HasImage};
-    ghost use Rattle.rs_journal_pages.specs.Streams.{files_of, may_leave, image, AreUsable, IsClean, IsOpen, IsSound, AddsNoOutcome, GoesOn, part_at, SameParts, Stands, Holds, Rests};
+    ghost use Rattle.rs_journal_pages.specs.Streams.{files_of, may_leave, image, page_count, AreUsable, IsClean, IsOpen, IsSound, AddsNoOutcome, GoesOn, HasSpilled, log_len, part_at, SameParts, Stands, Holds, Rests};
 
     /// A stream over these files, which [`open`](PageStream::open) has to read first.
     pub fn new(
@@ -57,12 +62,14 @@ impl<D: Disk> PageStream<D> {
     ) -> Result<PageStream<D>, AllocFailed<Files<D>>>
         requires { IsTrue (D.Disk.is_usable files.log) × IsTrue (D.Disk.is_usable files.db) }
         ensures back { IfErr result (λ e. e.value ≡ files) }
+        ensures over { IfOk result (λ it. files_of it ≡ (files.log, files.db)) }
         ensures usable { IfOk result AreUsable }
     {
+        // No commit copies the log by itself: whoever lets the files be synced only now and then has to choose the moment.
         let options = Options {
             cache_pages: 16,
             spill_pages: 1000,
-            checkpoint_frames: 4000,
+            checkpoint_frames: usize::MAX,
             seed,
         };
         let size = PageSize::new(PAGE_SIZE).unwrap();
@@ -74,6 +81,7 @@ impl<D: Disk> PageStream<D> {
             seen: nothing,
             tail: Vec::new(alloc),
             page: Vec::new(alloc),
+            logged: LONG_LOG,
         })
     }
 
@@ -87,6 +95,7 @@ impl<D: Disk> PageStream<D> {
             seen: _,
             tail: _,
             page: _,
+            logged: _,
         } = self;
         pager.close()
     }
@@ -100,9 +109,15 @@ impl<D: Disk> PageStream<D> {
 
     /// How many pages the stream takes.
     pub fn page_count(&self) -> u32
-        ensures { result ≡ self.now.seen.count }
+        ensures { result ≡ page_count self.now }
     {
         self.seen.count
+    }
+
+    /// Whether the log has grown so long that a [`checkpoint`](PageStream::checkpoint) is due. True after an opening, since the log may
+    /// be long from before.
+    pub fn is_log_long(&self) -> bool {
+        self.logged >= LONG_LOG
     }
 
     /// Forgets what was pushed since the last commit.
@@ -127,6 +142,7 @@ impl<D: Disk> PageStream<D> {
         };
         form_page(&mut self.page, number, &self.tail)?;
         put_page(&mut self.pager, at, &self.page)?;
+        self.logged = self.logged.saturating_add(1);
         self.seen.count += 1;
         self.tail.clear();
         Ok(())
@@ -280,14 +296,22 @@ impl<D: Disk> PageStream<D> {
         }
     }
 
-    /// Copies what is committed from the log into the file of pages, so that the next commit begins the log anew. A commit that finds the
-    /// log long does so by itself.
+    /// Copies what is committed from the log into the file of pages, and empties the log. No commit does so by itself, so call this while
+    /// nothing waits and [`is_log_long`](PageStream::is_log_long). What was pushed since the last commit stays; if some of it is in the log
+    /// already, nothing is copied.
     pub fn checkpoint(&mut self) -> Result<(), Error>
+        ensures copied { OnOk result (¬ HasSpilled self.old → log_len self.new ≡ 0) }
         ensures holds { (standing seen : List ℕ) → Holds self.old standing seen → Holds self.new standing seen }
         ensures rests { (standing : List ℕ) → Rests self.old standing → Rests self.new standing }
         ensures crash { AddsNoOutcome self.old self.new }
     {
-        self.pager.checkpoint()
+        match self.pager.checkpoint() {
+            Ok(()) => {
+                self.logged = 0;
+                Ok(())
+            }
+            Err(error) => Err(error),
+        }
     }
 
     /// Appends to `out` what a page of the stream has of it.
@@ -295,6 +319,7 @@ impl<D: Disk> PageStream<D> {
         ensures read { OnOk result (IsClean self.new → out.new.items ≡ out.old.items ++ part_at self.old index) }
         ensures rests { (standing : List ℕ) → Rests self.old standing → Rests self.new standing }
         ensures same { SameParts self.old self.new }
+        ensures crash { AddsNoOutcome self.old self.new }
     {
         let Some(at) = index.checked_add(2) else {
             return Err(Error::NoSuchPage);

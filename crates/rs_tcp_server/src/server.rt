@@ -41,6 +41,23 @@ pub struct Server {
     ghost each: { places ≡ blank.places },
 }
 
+/// What a server is to be.
+#[derive(Clone, Copy, Debug)]
+pub struct Settings {
+    /// How many connections it accepts: none, if that is 0.
+    pub connections: u64,
+    /// How many topics may hold a message.
+    pub topics: TopicLimit,
+    /// How many bytes the retained messages may count (see [`bytes_of`](rs_store::bytes_of)). Any number, if it is not given.
+    pub memory: Option<u64>,
+    /// How many clients read the store at the same time.
+    pub places: PlaceCount,
+    /// How many clients are served at the same time.
+    pub clients: u16,
+    /// After how long an idle connection ends. Never, if it is not given.
+    pub idle: Option<Duration>,
+}
+
 /// What a server did.
 #[derive(Clone, Copy, Debug, PartialEq, Eq)]
 pub struct Summary {
@@ -56,9 +73,10 @@ impl Server {
     /// Binds an address: a host's name, an IPv4 or an IPv6 address, and a port, as `localhost:1883` or `[::1]:1883`. Port 0 takes one
     /// that is free. It will accept `connections` connections, none if that is 0, and serve `clients` clients at the same time, but at
     /// least as many as there are `places`, and at most [`MAX_LINES`]. For each of `places` there is a seat, by which one client at a time
-    /// takes the version that it reads. The store is empty, and holds messages of at most `limit` topics. If `idle` is given, a connection
-    /// ends if no byte came for so long, or if no byte of what waits for its client was taken for so long. As many clients may wait to be
-    /// accepted as are served at the same time, but at least 4,096, and no more than the system lets wait.
+    /// takes the version that it reads. The store is empty. It holds messages of at most as many `topics`, which count at most as many bytes
+    /// as `memory` says. If `idle` is given, a connection ends if no byte came for so long, or if no byte of what waits for its client was
+    /// taken for so long. As many clients may wait to be accepted as are served at the same time, but at least 4,096, and no more than the
+    /// system lets wait.
     ///
     /// # Errors
     ///
@@ -68,13 +86,17 @@ impl Server {
         rt: &H,
         alloc: Global,
         address: &str,
-        connections: u64,
-        limit: TopicLimit,
-        places: PlaceCount,
-        clients: u16,
-        idle: Option<Duration>,
+        settings: Settings,
     ) -> Result<Server, ListenFault> {
-        let blank = Blank::new(alloc, limit, places)?;
+        let Settings {
+            connections,
+            topics,
+            memory,
+            places,
+            clients,
+            idle,
+        } = settings;
+        let blank = Blank::new(alloc, topics, places)?.with_memory(memory.unwrap_or(u64::MAX));
         match Listener::bind(rt, alloc, address, connections, idle) {
             Ok(listener) => {
                 listener.let_wait(clients);
@@ -113,8 +135,8 @@ impl Server {
     /// ends that connection alone. Once the last connection was accepted, clients that have none may need up to a second to end.
     ///
     /// The log of `rt` has a line when each connection begins, and one that says how it ended and what it was refused, one when the store is
-    /// full, one when it may take new topics again, and before them all a warning if there are too few descriptors, or if too few clients may
-    /// wait to be accepted.
+    /// full or lacks memory, one when it takes new topics or messages again, and before them all a warning if there are too few descriptors, or
+    /// if too few clients may wait to be accepted.
     ///
     /// The number of changes is that of a run of the store with so many clients, as [`run_store`] says it. The clause is weak: any number meets
     /// it, since it says nothing of what the clients sent.

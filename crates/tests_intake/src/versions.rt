@@ -106,6 +106,26 @@ fn each_sweep_is_of_the_moment_of_its_set(rt: HostRuntime) -> Result<(), Fail> {
     check_steps(&rt, alloc, blank(alloc, 1, 1)?, &steps)
 }
 
+/// A message without an interval counts 363 bytes here, and one with it 368. What is refused makes no entry, and no Sweep either.
+#[test]
+fn a_set_is_refused_beyond_the_limit_of_bytes(rt: HostRuntime) -> Result<(), Fail> {
+    let alloc = rt.alloc();
+    let steps = [
+        Step::Put(Change::Set(1, 1, b'a', 100, Some(10)), (1, 0)),
+        Step::Put(Change::Set(1, 2, b'b', 100, None), (2, 0)),
+        // `a` has expired, but there is space for a topic.
+        Step::Put(Change::Set(1, 3, b'c', 120, None), (0, 32)),
+        Step::HoldsNothing,
+        // What is replaced gives its bytes back, here too few of them.
+        Step::Put(Change::Set(1, 3, b'b', 100, Some(10)), (0, 32)),
+        Step::Put(Change::Set(1, 3, b'b', 120, None), (3, 0)),
+        Step::Put(Change::Clear(1, 4, b'a'), (4, 0)),
+        Step::Put(Change::Set(1, 5, b'c', 120, None), (5, 0)),
+        Step::At(0, Look::Reads(120, 5, b"b c ")),
+    ];
+    check_steps(&rt, alloc, blank(alloc, 3, 1)?.with_memory(731), &steps)
+}
+
 #[test]
 fn faults_of_a_put_have_codes_and_texts(rt: HostRuntime) {
     let rows: [(PutFault, u8, &str); 4] = [

@@ -4,7 +4,7 @@ use kit_test::{CONNACK, CONNECT, REPLAYED, SUBSCRIBED, is_shown};
 use log::Log;
 use rs_message::PlaceCount;
 use rs_store::TopicLimit;
-use rs_tcp_server::{ListenFault, Server, Summary};
+use rs_tcp_server::{ListenFault, Server, Settings, Summary};
 use std::alloc::Global;
 use std::io;
 use std::io::{ErrorKind, Read, Write};
@@ -140,17 +140,15 @@ fn start<
     idle: Option<Duration>,
 ) -> Result<(String, JoinHandle<Option<Summary>>), Fail> {
     let places = PlaceCount::new(places).ok_or("places")?;
-    let limit = TopicLimit::new(10).ok_or("10 topics")?;
-    let server = Server::bind(
-        &rt,
-        alloc,
-        "127.0.0.1:0",
+    let settings = Settings {
         connections,
-        limit,
+        topics: TopicLimit::new(10).ok_or("10 topics")?,
+        memory: None,
         places,
         clients,
         idle,
-    )?;
+    };
+    let server = Server::bind(&rt, alloc, "127.0.0.1:0", settings)?;
     let address = server.address()?;
     let serving = spawn(&rt, move || server.run(rt).ok())?;
     Ok((address, serving))

@@ -1,4 +1,6 @@
 use Rattle.std.proofs.Common.{sym}
+use Rattle.sqlite_wal.proofs.StateLemmas.{AddsNothing-trans}
+use Rattle.rs_journal_pages.specs.Streams.{may_leave}
 use Rattle.rs_journal_pages.proofs.StandsLemmas.{stands_of}
 use Rattle.rs_journal.specs.Frames.{frames}
 use Rattle.rs_journal.proofs.FrameLemmas.{one_list}
@@ -19,3 +21,11 @@ returns-in-Ok-clause-rests g c = λ standing seen holds. c.read_stream.ensures.r
 
 pub returns-in-Err-clause-rests : goal.returns-in-Err-clause-rests
 returns-in-Err-clause-rests g c = λ standing seen holds. c.read_stream.ensures.rests (frames standing) (c.rollback.ensures.rests (frames standing) (stands_of _ (frames standing) (frames seen) holds))
+
+pub returns-in-Ok-clause-crash : goal.returns-in-Ok-clause-crash
+returns-in-Ok-clause-crash g c =
+    AddsNothing-trans 1024 (may_leave c.args.self.now.stream) (may_leave c.rollback.new.self) (may_leave c.read_stream.new.self.stream) c.rollback.ensures.crash c.read_stream.ensures.crash
+
+pub returns-in-Err-clause-crash : goal.returns-in-Err-clause-crash
+returns-in-Err-clause-crash g c =
+    AddsNothing-trans 1024 (may_leave c.args.self.now.stream) (may_leave c.rollback.new.self) (may_leave c.read_stream.new.self.stream) c.rollback.ensures.crash c.read_stream.ensures.crash
