@@ -1,7 +1,9 @@
 -- What the writer has published and what it holds.
-use Rattle.std.specs.Prelude.{ℕ, ◌≡◌, ◌≢◌, ◌≤◌, ◌++◌, ◌∷◌, ◌⊎◌, [], List, Option, Some, None}
+use Rattle.std.specs.Prelude.{Bool, true, false, ℕ, ◌≡◌, ◌≢◌, ◌≤◌, ◌++◌, ◌∷◌, ◌⊎◌, [], List, Option, Some, None}
 use Rattle.logbook.specs.Pages.{Book}
 use Rattle.rs_message.specs.declared.entry.Entry.{Entry}
+use Rattle.rs_message.specs.declared.entry.Operation.{Operation}
+use Rattle.rs_message.specs.declared.entry.Operation.TheVariants.{Clear, Set, Sweep}
 use Rattle.rs_store.specs.declared.content.Content.{Content}
 use Rattle.rs_store.specs.declared.fault.Refusal.{Refusal}
 use Rattle.rs_store.specs.declared.fault.Refusal.TheVariants as refusal
@@ -50,6 +52,12 @@ pub record IsWriting (history : Book) (limit memory : ℕ) (copies : Copies) (li
   pub calm_is : NoneExpiredBefore calm (kept_content (content_of (shown copies).catalogue) held)
   pub steps : StepsFor (shown copies) held (steps_of copies)
   pub small : retained_bytes (kept_content (content_of (shown copies).catalogue) held).retained ≤ memory
+
+-- a Clear may take the last memory, since what it clears is given back
+abbrev pub takes_last : Operation → Bool
+takes_last (Set found) = false
+takes_last (Clear topic) = true
+takes_last (Sweep moment) = false
 
 -- the list published, and nothing held
 abbrev pub shows : List Entry → Written

@@ -18,7 +18,8 @@ ghost use Rattle.rs_version.specs.Catalogues.{content_of};
 ghost use Rattle.rs_version.specs.Copies.{shown, steps_of};
 ghost use Rattle.rs_version.specs.Receipts.{StandsAt};
 ghost use Rattle.rs_version.specs.VersionRule.{Follows, applied, state};
-ghost use Rattle.rs_version.specs.Writer.{Written, Declines, IsReady, Precedes, Refuses, holds_back, kept_of, released, shows};
+ghost use Rattle.rs_version.specs.Writer.{Written, Declines, IsReady, Precedes, Refuses, holds_back, kept_of, released, shows, takes_last};
+ghost use Rattle.rs_version.specs.declared.reserve.TheConstants.{ENOUGH_BLOCKS};
 
 use crate::catalogue::StoreCatalogue;
 use crate::catalogue_copy::CopyStep;
@@ -110,7 +111,9 @@ fn fits(catalogue: &StoreCatalogue, memory: u64, entry: &Entry) -> bool
 }
 
 /// Whether the entry may take the last memory: what a Clear clears is given back.
-fn may_take_last(entry: &Entry) -> bool {
+fn may_take_last(entry: &Entry) -> bool
+    ensures { result ≡ takes_last entry.now.operation }
+{
     match &entry.operation {
         Operation::Clear(_) => true,
         Operation::Set(_) | Operation::Sweep(_) => false,
@@ -127,6 +130,7 @@ fn next_step<N: StoreName>(
     requires { IsLegal N.limit (extended history.old entry.now) }
     ensures step { IfOk result (λ s. (s.entry ≡ entry.now) × (s.after.history ≡ N.history) × (s.after.log ≡ history.new)) }
     ensures history { MatchResult result (λ _. history.new ≡ extended history.old entry.now) (λ _. history.new ≡ history.old) }
+    ensures reserve { OnOk result (takes_last entry.now.operation ≡ false → ENOUGH_BLOCKS ≤ length reserve.new.blocks.items) }
 {
     if !may_take_last(entry) {
         reserve.fill()?;
