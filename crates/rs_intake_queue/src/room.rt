@@ -1,6 +1,7 @@
 //! Memory that is left for clients that read and clear.
 
 ghost use Rattle.std.specs.Prelude.{◌≡◌, ◌≤◌, IfOk, length, vec_capacity};
+ghost use Rattle.rs_intake_queue.specs.declared.room.TheConstants.{BLOCKS, BLOCK_SIZE};
 
 use std::alloc::{AllocError, Global};
 

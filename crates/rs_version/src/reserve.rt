@@ -1,6 +1,7 @@
 //! Memory that the writer keeps for when no other is left.
 
 ghost use Rattle.std.specs.Prelude.{◌≡◌, ◌+◌, ◌<◌, ◌≤◌, [], length, vec_capacity, MatchBool, OnErr, OnOk};
+ghost use Rattle.rs_version.specs.declared.reserve.TheConstants.{BLOCK_SIZE, ENOUGH_BLOCKS};
 
 use std::alloc::{AllocError, Global};
 
