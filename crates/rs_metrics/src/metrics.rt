@@ -92,9 +92,14 @@ impl Metrics {
         self.add(line, Counter::Ended(end), 1);
     }
 
-    /// So many packets were handled.
-    pub fn add_packets_in(&self, line: u16, packets: u64) {
-        self.add(line, Counter::PacketsIn, packets);
+    /// A packet was received.
+    pub fn count_packet_in(&self, line: u16) {
+        self.add(line, Counter::PacketsIn, 1);
+    }
+
+    /// A packet was written.
+    pub fn count_packet_out(&self, line: u16) {
+        self.add(line, Counter::PacketsOut, 1);
     }
 
     /// So many bytes were read.
@@ -122,7 +127,7 @@ impl Metrics {
         self.add(line, Counter::Filter(outcome), 1);
     }
 
-    /// So many messages were sent in answer to filters.
+    /// So many messages were in the answers to filters.
     pub fn add_replayed(&self, line: u16, messages: u64) {
         self.add(line, Counter::Replayed, messages);
     }
@@ -130,6 +135,11 @@ impl Metrics {
     /// The line sends so many changes to the writer. Called before it sends them, so that no change is taken that was not sent.
     pub fn add_sent(&self, line: u16, changes: u64) {
         self.add(line, Counter::Sent, changes);
+    }
+
+    /// So many changes of those that were [added](Metrics::add_sent) were not sent after all.
+    pub fn take_back_sent(&self, line: u16, changes: u64) {
+        self.add(line, Counter::Sent, 0u64.wrapping_sub(changes));
     }
 
     /// How many changes the writer took, of all lines, since the start.
@@ -142,7 +152,7 @@ impl Metrics {
         self.topics.store(topics, Ordering::SeqCst);
     }
 
-    /// How many bytes the retained messages take.
+    /// How many bytes the retained messages count.
     pub fn set_bytes(&self, bytes: u64) {
         self.bytes.store(bytes, Ordering::SeqCst);
     }
