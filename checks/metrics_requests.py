@@ -1,4 +1,6 @@
-"""Requests to a server with `--metrics`, and the numbers that it tells. Part of `checks/metrics`."""
+"""Requests to a server with `--metrics`, and the numbers that it tells. Part of
+`checks/metrics`.
+"""
 
 import re
 import socket
@@ -13,8 +15,9 @@ HEALTH = GET.replace(b"metrics", b"healthz")
 RESIDENT = "rstored_resident_memory_bytes"
 TEXT_TYPE = b"content-type: text/plain; version=0.0.4; charset=utf-8"
 
-SAMPLE = re.compile(r"([a-z_]+(?:\{[a-z_]+=\"[a-z0-9_]+\"(?:,[a-z_]+=\"[a-z0-9_]+\")*\})?) ([0-9]+)")
-COMMENT = re.compile(r"# (?:HELP [a-z_]+ [A-Z].*\.|TYPE [a-z_]+ (?:counter|gauge))")
+LABEL = r'[a-z_]+="[a-z0-9_]+"'
+SAMPLE = re.compile(rf"([a-z_]+(?:{{{LABEL}(?:,{LABEL})*}})?) ([0-9]+)")
+COMMENT = re.compile(r"# (?:HELP [a-z_]+ .+\.|TYPE [a-z_]+ (?:counter|gauge))")
 
 
 @contextmanager
@@ -40,8 +43,8 @@ def read_all(asked):
 
 
 def answered(server, *parts):
-    """What is answered to a request that is sent in these parts: the status, the head's other lines,
-    and the body."""
+    """What is answered to a request that is sent in these parts: the status, the head's other
+    lines, and the body."""
     with asking(server) as asked:
         for part in parts:
             asked.sendall(part)
@@ -51,7 +54,7 @@ def answered(server, *parts):
 def split(data):
     head, _, body = data.partition(b"\r\n\r\n")
     first, *fields = head.split(b"\r\n")
-    found = re.fullmatch(rb"HTTP/1\.1 ([0-9]{3}) [A-Z][A-Za-z ]*", first)
+    found = re.fullmatch(rb"HTTP/1\.[01] ([0-9]{3}) [A-Z][A-Za-z ]*", first)
     wanted(found, f"{data[:100]!r} is no answer")
     return int(found[1]), fields, body
 

@@ -350,5 +350,6 @@ def cannot_listen():
                 _, errors = run.communicate(timeout=PATIENCE)
                 first, *shown = errors.splitlines()
                 wanted((run.returncode, first) == (1, "rstored: cannot listen"), errors)
-                is_shown = len(shown) == 1 and shown[0].startswith("rstored: ") and reason in shown[0]
-                wanted(is_shown if "--log" in words else not shown, errors)
+                is_told = len(shown) == 1 and shown[0].startswith("rstored: ")
+                is_told = is_told and reason in shown[0]
+                wanted(is_told if "--log" in words else not shown, errors)

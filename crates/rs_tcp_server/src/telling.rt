@@ -7,8 +7,11 @@ use rs_tcp_sockets::{StopSignal, SystemClock};
 use std::alloc::{AllocError, Global};
 use std::rt::Files;
 use std::sync::Arc;
-use std::thread::{JoinHandle, Threads, spawn};
+use std::thread::{Builder, JoinHandle, Threads};
 use std::time::Clock;
+
+/// The stack of the thread, in bytes. It needs far less; the default is 8 MiB of address space.
+const STACK: usize = 256 * 1024;
 
 /// A thread that tells numbers.
 #[derive(Drop)]
@@ -56,7 +59,8 @@ pub(crate) fn start_telling<H: Clock + Files + Threads + AllocGlobal + Copy + Se
     };
     let stop = Arc::new(alloc, StopSignal::new()?).map_err(|_| AllocError)?;
     let end = Arc::try_clone(&stop)?;
-    match spawn(&rt, move || server.run(&rt, &metrics, &end).is_ok()) {
+    let tell = move || server.run(&rt, &metrics, &end).is_ok();
+    match Builder::new().stack_size(STACK).spawn(&rt, tell) {
         Ok(thread) => Ok(Some(Telling { stop, thread })),
         Err(_) => Err(ListenFault::NoThread),
     }
