@@ -1,5 +1,5 @@
 -- When the retained messages count no more bytes than the writer may keep.
-use Rattle.std.proofs.Common.{◌≡◌, ℕ, ◌-◌, ◌<◌, ◌≤◌, true, List, arith}
+use Rattle.std.proofs.Common.{◌≡◌, ℕ, ◌-◌, ◌<◌, ◌≤◌, Bool, true, List, arith}
 use Rattle.std.specs.Prelude.{nat_le}
 use Rattle.std.specs.List.{filter}
 use Rattle.std.specs.List.Sorted.{IsStrictlySortedBy}
@@ -15,8 +15,8 @@ use Rattle.rs_store.proofs.Bytes.{bytes_filter_le, bytes_insert, bytes_remove}
 le_true : (m n : ℕ) → m ≤ n → true ≡ nat_le m n
 le_true m n h = grind (arith, nat_tests)
 
-pub true_le : (m n : ℕ) → nat_le m n ≡ true → m ≤ n
-true_le m n h = grind (arith, nat_tests)
+pub true_le : (m n : ℕ) (b : Bool) → b ≡ nat_le m n → b ≡ true → m ≤ n
+true_le m n b is h = grind (arith, nat_tests)
 
 le_same : (a b c d : ℕ) → (a ≤ b → c ≤ d) → (c ≤ d → a ≤ b) → nat_le a b ≡ nat_le c d
 le_same a b c d f g = grind (arith, nat_tests)

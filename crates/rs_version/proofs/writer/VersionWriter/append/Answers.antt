@@ -20,4 +20,4 @@ invariant_of-self-2 g c =
     appended _ _ _ _ c.push.new.self _ c.next_step.new.history _ c.with_entry-calm.result _ c.args.entry c.in_ok-step.step c.self.invariant (ap (λ w. w.held) c.self.view_is ∙ c.requires.none)
     legal (omega (arith, c.place-place.ensures.value, c.place-place.ensures.small)) (omega (arith, c.serial-serial.ensures.value, c.serial-serial.ensures.some))
     c.push.ensures.shown c.push.ensures.steps c.in_ok-step.ensures.step.0 c.in_ok-step.ensures.step.1 c.in_ok-step.ensures.step.2 c.in_ok-step.ensures.history c.with_entry-calm.ensures
-    (true_le _ _ (rw c.catalogue.ensures at (sym c.fits.ensures ∙ c.if-not-fits.false)))
+    (true_le _ _ c.fits.result (rw c.catalogue.ensures at c.fits.ensures) c.if-not-fits.false)
