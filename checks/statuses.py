@@ -100,7 +100,8 @@ LISTEN = f"listen [OPTIONS] {ADDRESS}"
 LISTENS = "Serves MQTT 5 clients that connect by TCP."
 SIZES = (f"--{PLACES}", f"--{CLIENTS}", f"--{TOPICS}", f"--{MEMORY}", f"--{CONNECTIONS}")
 LIMITS = (SIZES[0], "[default: 4]", SIZES[1], SIZES[2], "[default: 10000]", *SIZES[3:])
-MORE = ("--endless", f"--{IDLE}", "--log")
+METRICS = "metrics <ADDRESS>"
+MORE = ("--endless", f"--{IDLE}", "--log", f"--{METRICS}")
 MISSING = "the following required arguments were not provided:"
 LOOPBACK = "listen --address 127.0.0.1:0"
 ONE = f"{LOOPBACK} --connections 1"
@@ -144,11 +145,16 @@ WORDS = {
     f"{ONE} --memory 1 --memory 1": refused(
         f"the argument '--{MEMORY}' cannot be used multiple times"
     ),
+    f"{ONE} --metrics": refused(f"a value is required for '--{METRICS}' but none was supplied"),
+    f"{ONE} --metrics a --metrics a": refused(
+        f"the argument '--{METRICS}' cannot be used multiple times"
+    ),
     f"{ONE} --idle 0": invalid(0, IDLE, "0 is not in 1..=86400"),
     f"{ONE} --idle 86401": invalid(86401, IDLE, "86401 is not in 1..=86400"),
     f"{ONE} --idle x": invalid("x", IDLE, "invalid digit found in string"),
     f"{ONE} --idle 1 --idle 1": refused(f"the argument '--{IDLE}' cannot be used multiple times"),
     "listen --address nowhere --connections 1": NO_LISTENER,
+    f"{ONE} --metrics nowhere": NO_LISTENER,
     "pipe --at 0": End(0, ""),
     f"pipe --hex --at {2**64 - 1}": End(0, ""),
 }
@@ -250,6 +256,7 @@ def listening():
     with socket.create_server(("127.0.0.1", 0)) as other:
         address = f"127.0.0.1:{other.getsockname()[1]}"
         compare(f"listen --address {address} --connections 1", "", NO_LISTENER)
+        compare(f"{ONE} --metrics {address}", "", NO_LISTENER)
     with Server(places=1, connections=1) as server:
         Client(server).connect().disconnect()
         ended = server.ended()

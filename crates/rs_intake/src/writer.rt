@@ -18,6 +18,7 @@ use crate::ways_back::WaysBack;
 use rs_intake_line::{FEW_REPLIES, LineName, WayEnd};
 use rs_intake_queue::{Job, JobReceiver, MAX_CHANGES, Patience, Polls};
 use rs_message::Origin;
+use rs_metrics::WriterMeter;
 use rs_version::VersionWriter;
 use std::marker::Model;
 use std::sync::Wait;
@@ -29,6 +30,7 @@ pub struct Queue<N: LineName> {
     received: Taken<N>,
     ways: WaysBack<N>,
     patience: Patience,
+    meter: WriterMeter,
     ghost queue: { IsQueue N.queue (receives_on receiver) },
     ghost new: { (received.entries ≡ []) × (received.ends ≡ []) },
     ghost lines: { ways.senders.items ≡ replicate N.places untold },
@@ -40,6 +42,7 @@ impl<N: LineName> Queue<N> {
         received: Taken<N>,
         ways: WaysBack<N>,
         polls: Polls,
+        meter: WriterMeter,
     ) -> Queue<N>
         requires queue { IsQueue N.queue (receives_on receiver) }
         requires new { (received.entries ≡ []) × (received.ends ≡ []) }
@@ -50,6 +53,7 @@ impl<N: LineName> Queue<N> {
             received,
             ways,
             patience: Patience::new(polls.writer),
+            meter,
         }
     }
 }
@@ -120,6 +124,22 @@ fn replies_at_once(patience: &Patience) -> usize
     }
 }
 
+/// Shows what the writer has published, and how many changes it took.
+fn show<N: LineName, R: Wait + Drop>(
+    meter: &WriterMeter,
+    writer: &VersionWriter<N, R>,
+    taken: u64,
+) {
+    if meter.is_needed() {
+        meter.set_content(
+            writer.tell().version(),
+            u64::from(writer.topics()),
+            writer.bytes(),
+        );
+        meter.set_taken(taken);
+    }
+}
+
 /// A writer at its queue. It takes one job at a time. Contracts see what it published and holds, what it took, what it sent by the ways back,
 /// and how many entries it took and refused.
 ///
@@ -132,6 +152,7 @@ pub struct JobWriter<N: LineName, R: Wait + Drop> {
     received: Taken<N>,
     ways: WaysBack<N>,
     patience: Patience,
+    meter: WriterMeter,
     taken: u64,
     refused: u64,
     // How many places have not ended.
@@ -168,14 +189,17 @@ impl<N: LineName, R: Wait + Drop> JobWriter<N, R> {
             received,
             ways,
             patience,
+            meter,
         } = queue;
         let left = received.places();
+        meter.set_taking(true);
         JobWriter {
             writer,
             receiver,
             received,
             ways,
             patience,
+            meter,
             taken: 0,
             refused: 0,
             left,
@@ -211,6 +235,7 @@ impl<N: LineName, R: Wait + Drop> JobWriter<N, R> {
                 let at_once = replies_at_once(&self.patience);
                 let count = self.ways.put_job(rt, &mut self.writer, changes, at_once);
                 self.refused += count;
+                show(&self.meter, &self.writer, self.taken);
                 None
             }
             Ok(Job::End(_)) => {
@@ -239,11 +264,13 @@ impl<N: LineName, R: Wait + Drop> JobWriter<N, R> {
             received,
             ways,
             patience: _,
+            meter,
             taken,
             refused,
             left: _,
         } = self;
         drop(writer.retry());
+        meter.set_taking(false);
         Ended::new(writer, taken, refused, received, cause, ways.end())
     }
 }

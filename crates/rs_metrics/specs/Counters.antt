@@ -48,4 +48,5 @@ index_of Counts.BytesIn = 28
 index_of Counts.BytesOut = 29
 index_of Counts.Replayed = 30
 index_of Counts.Sent = 31
-index_of Counts.Opened = 32
+index_of Counts.PacketsOut = 32
+index_of Counts.Opened = 33

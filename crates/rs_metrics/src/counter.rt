@@ -134,8 +134,10 @@ pub enum Counter {
     Opened,
     /// Connections that ended so.
     Ended(End),
-    /// Packets that were handled.
+    /// Packets that were received.
     PacketsIn,
+    /// Packets that were written.
+    PacketsOut,
     /// Bytes that were read.
     BytesIn,
     /// Bytes that were written.
@@ -146,16 +148,16 @@ pub enum Counter {
     Clear(Outcome),
     /// Filters, and what became of them.
     Filter(FilterOutcome),
-    /// Messages that were sent in answer to filters.
+    /// Messages in the answers to filters.
     Replayed,
     /// Changes that were sent to the writer.
     Sent,
 }
 
 /// How many [`Counter`]s there are.
-pub const COUNTERS: usize = 33;
+pub const COUNTERS: usize = 34;
 
-const _: () = prove!(COUNTERS == 33);
+const _: () = prove!(COUNTERS == 34);
 
 // The index of the first of each group. The ends of connections stand first, and their beginnings behind them: a shard is read in this
 // order, so that no end is read whose beginning is not.
@@ -187,7 +189,8 @@ impl Counter {
             Counter::BytesOut => 29,
             Counter::Replayed => 30,
             Counter::Sent => 31,
-            Counter::Opened => 32,
+            Counter::PacketsOut => 32,
+            Counter::Opened => 33,
         }
     }
 }

@@ -146,7 +146,7 @@ pub const FAMILIES: &[Family] = &[
     },
     Family {
         name: "rstored_packets_received_total",
-        help: "Packets that were handled.",
+        help: "Packets that were received, malformed ones too.",
         kind: Kind::Counter,
         rows: &[Row {
             labels: "",
@@ -154,8 +154,17 @@ pub const FAMILIES: &[Family] = &[
         }],
     },
     Family {
+        name: "rstored_packets_sent_total",
+        help: "Packets that were written for clients.",
+        kind: Kind::Counter,
+        rows: &[Row {
+            labels: "",
+            source: Source::Counter(Counter::PacketsOut),
+        }],
+    },
+    Family {
         name: "rstored_received_bytes_total",
-        help: "Bytes that were read from clients.",
+        help: "Bytes that were read from the sockets of clients.",
         kind: Kind::Counter,
         rows: &[Row {
             labels: "",
@@ -164,7 +173,7 @@ pub const FAMILIES: &[Family] = &[
     },
     Family {
         name: "rstored_sent_bytes_total",
-        help: "Bytes that were written for clients.",
+        help: "Bytes that were written to the sockets of clients.",
         kind: Kind::Counter,
         rows: &[Row {
             labels: "",
@@ -251,7 +260,7 @@ pub const FAMILIES: &[Family] = &[
     },
     Family {
         name: "rstored_filters_total",
-        help: "Filters of subscriptions, by outcome.",
+        help: "Filters of subscriptions that the store was asked for, by outcome.",
         kind: Kind::Counter,
         rows: &[
             Row {
@@ -270,7 +279,7 @@ pub const FAMILIES: &[Family] = &[
     },
     Family {
         name: "rstored_messages_replayed_total",
-        help: "Retained messages that were sent in answer to filters.",
+        help: "Retained messages in the answers to filters.",
         kind: Kind::Counter,
         rows: &[Row {
             labels: "",
@@ -297,7 +306,7 @@ pub const FAMILIES: &[Family] = &[
     },
     Family {
         name: "rstored_retained_bytes",
-        help: "Bytes that retained messages take.",
+        help: "Bytes that retained messages count, as --memory counts them.",
         kind: Kind::Gauge,
         rows: &[Row {
             labels: "",
@@ -306,7 +315,7 @@ pub const FAMILIES: &[Family] = &[
     },
     Family {
         name: "rstored_retained_bytes_limit",
-        help: "Bytes that retained messages may take. Missing if there is no limit.",
+        help: "Bytes that retained messages may count. Missing without --memory.",
         kind: Kind::Gauge,
         rows: &[Row {
             labels: "",
@@ -315,7 +324,7 @@ pub const FAMILIES: &[Family] = &[
     },
     Family {
         name: "rstored_history_entries_total",
-        help: "Changes that the store has published.",
+        help: "Entries of the history that were published: changes, and sweeps of expired messages.",
         kind: Kind::Counter,
         rows: &[Row {
             labels: "",
@@ -324,7 +333,7 @@ pub const FAMILIES: &[Family] = &[
     },
     Family {
         name: "rstored_changes_sent_total",
-        help: "Changes that were sent to the writer.",
+        help: "Changes that were sent to the writer of the store.",
         kind: Kind::Counter,
         rows: &[Row {
             labels: "",
@@ -333,7 +342,7 @@ pub const FAMILIES: &[Family] = &[
     },
     Family {
         name: "rstored_changes_waiting",
-        help: "Changes that were sent to the writer and wait for it.",
+        help: "Changes that were sent to the writer and that it has not taken.",
         kind: Kind::Gauge,
         rows: &[Row {
             labels: "",

@@ -42,6 +42,30 @@ impl Shard {
     }
 }
 
+/// What only the writer of the store knows.
+#[derive(Drop)]
+struct Shown {
+    topics: AtomicU64,
+    bytes: AtomicU64,
+    version: AtomicU64,
+    taken: AtomicU64,
+    is_taking: AtomicBool,
+    _apart: [u64; 7],
+}
+
+impl Shown {
+    fn new() -> Shown {
+        Shown {
+            topics: AtomicU64::new(0),
+            bytes: AtomicU64::new(0),
+            version: AtomicU64::new(0),
+            taken: AtomicU64::new(0),
+            is_taking: AtomicBool::new(false),
+            _apart: [0; 7],
+        }
+    }
+}
+
 /// What a running server counts. Threads share it by reference, as by an `Arc`. Each number goes on at 0 after [`u64::MAX`].
 ///
 /// A line is the number of a client's way to the writer, from 1 on. Whoever counts names its own line, so that threads of different lines do
@@ -51,11 +75,8 @@ pub struct Metrics {
     shards: Vec<Shard>,
     limits: Limits,
     started: u64,
-    topics: AtomicU64,
-    bytes: AtomicU64,
-    version: AtomicU64,
-    taken: AtomicU64,
-    is_taking: AtomicBool,
+    // Elsewhere, so that whoever counts need not fetch what the writer has written meanwhile.
+    shown: Box<Shown>,
     ghost full: { vec_len shards ≡ SHARDS },
 }
 
@@ -70,11 +91,7 @@ impl Metrics {
             shards: empty_shards(alloc)?,
             limits,
             started,
-            topics: AtomicU64::new(0),
-            bytes: AtomicU64::new(0),
-            version: AtomicU64::new(0),
-            taken: AtomicU64::new(0),
-            is_taking: AtomicBool::new(false),
+            shown: Box::new(alloc, Shown::new()).map_err(|_| AllocError)?,
         })
     }
 
@@ -92,9 +109,14 @@ impl Metrics {
         self.add(line, Counter::Ended(end), 1);
     }
 
-    /// So many packets were handled.
-    pub fn add_packets_in(&self, line: u16, packets: u64) {
-        self.add(line, Counter::PacketsIn, packets);
+    /// A packet was received.
+    pub fn count_packet_in(&self, line: u16) {
+        self.add(line, Counter::PacketsIn, 1);
+    }
+
+    /// A packet was written.
+    pub fn count_packet_out(&self, line: u16) {
+        self.add(line, Counter::PacketsOut, 1);
     }
 
     /// So many bytes were read.
@@ -122,7 +144,7 @@ impl Metrics {
         self.add(line, Counter::Filter(outcome), 1);
     }
 
-    /// So many messages were sent in answer to filters.
+    /// So many messages were in the answers to filters.
     pub fn add_replayed(&self, line: u16, messages: u64) {
         self.add(line, Counter::Replayed, messages);
     }
@@ -132,34 +154,39 @@ impl Metrics {
         self.add(line, Counter::Sent, changes);
     }
 
+    /// So many changes of those that were [added](Metrics::add_sent) were not sent after all.
+    pub fn take_back_sent(&self, line: u16, changes: u64) {
+        self.add(line, Counter::Sent, 0u64.wrapping_sub(changes));
+    }
+
     /// How many changes the writer took, of all lines, since the start.
     pub fn set_taken(&self, changes: u64) {
-        self.taken.store(changes, Ordering::SeqCst);
+        self.shown.taken.store(changes, Ordering::SeqCst);
     }
 
     /// How many topics hold a message.
     pub fn set_topics(&self, topics: u64) {
-        self.topics.store(topics, Ordering::SeqCst);
+        self.shown.topics.store(topics, Ordering::SeqCst);
     }
 
-    /// How many bytes the retained messages take.
+    /// How many bytes the retained messages count.
     pub fn set_bytes(&self, bytes: u64) {
-        self.bytes.store(bytes, Ordering::SeqCst);
+        self.shown.bytes.store(bytes, Ordering::SeqCst);
     }
 
     /// How many entries the history has.
     pub fn set_version(&self, version: u64) {
-        self.version.store(version, Ordering::SeqCst);
+        self.shown.version.store(version, Ordering::SeqCst);
     }
 
     /// Whether the writer takes changes.
     pub fn set_taking(&self, is_taking: bool) {
-        self.is_taking.store(is_taking, Ordering::SeqCst);
+        self.shown.is_taking.store(is_taking, Ordering::SeqCst);
     }
 
     /// Whether the writer takes changes.
     pub fn is_taking(&self) -> bool {
-        self.is_taking.load(Ordering::SeqCst)
+        self.shown.is_taking.load(Ordering::SeqCst)
     }
 
     /// All numbers, summed up. `resident` is the memory that the process has, in bytes, if the system tells it.
@@ -167,7 +194,7 @@ impl Metrics {
     /// What is counted meanwhile may be in it or not. There are never fewer connections that began than ended, nor fewer changes that were
     /// sent than taken.
     pub fn snapshot(&self, resident: Option<u64>) -> Snapshot {
-        let taken = self.taken.load(Ordering::SeqCst);
+        let taken = self.shown.taken.load(Ordering::SeqCst);
         let mut counts = [0; COUNTERS];
         for shard in &self.shards {
             shard.add_to(&mut counts);
@@ -176,9 +203,9 @@ impl Metrics {
             counts,
             limits: self.limits,
             started: self.started,
-            topics: self.topics.load(Ordering::SeqCst),
-            bytes: self.bytes.load(Ordering::SeqCst),
-            version: self.version.load(Ordering::SeqCst),
+            topics: self.shown.topics.load(Ordering::SeqCst),
+            bytes: self.shown.bytes.load(Ordering::SeqCst),
+            version: self.shown.version.load(Ordering::SeqCst),
             taken,
             is_taking: self.is_taking(),
             resident,

@@ -17,7 +17,7 @@ mod server;
 
 pub use asking::{Asked, parse_request};
 pub use conversation::{Conversation, Wanted};
-pub use limits::{MAX_DISCARDED, MAX_HEAD, MAX_REQUESTS, SECONDS};
+pub use limits::{MAX_DESCRIPTORS, MAX_DISCARDED, MAX_HEAD, MAX_REQUESTS, SECONDS};
 pub use memory::resident_bytes;
 pub use replying::{Reply, write_reply};
 pub use server::MetricsServer;

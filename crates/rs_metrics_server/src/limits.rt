@@ -5,6 +5,11 @@ pub const MAX_REQUESTS: usize = 8;
 
 const _: () = prove!(MAX_REQUESTS == 8);
 
+/// How many descriptors are needed: for the address, the stop and each connection, and one to read how much memory is resident.
+pub const MAX_DESCRIPTORS: u8 = 11;
+
+const _: () = prove!(MAX_DESCRIPTORS as usize == MAX_REQUESTS + 3);
+
 /// How long a connection lasts in all, in seconds.
 pub const SECONDS: u64 = 5;
 

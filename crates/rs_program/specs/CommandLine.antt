@@ -1,5 +1,6 @@
 -- The command line, as the crate clap reads it.
 use Rattle.std.specs.Prelude.{◌≡◌, ◌≤◌, ◌<◌, ◌-◌, ◌*◌, ◌^◌, ◌⊎◌, ◌++◌, ℕ, true, false, Bool, List, [], ◌∷◌, Option, Some, None, IfSome, is_some, not, unwrap_or, codes}
+use Rattle.std.specs.Option.{option_map}
 use Rattle.std.specs.String.{string_bytes}
 use Rattle.std.specs.Str.Parse.{IsNumeral, digits_value, without_leading_plus}
 use Rattle.clap.specs.Words.{App, Rule, Row, Text, new_app, new_rule, with_rule, with_subcommand, first_of, one_of, subcommand_of}
@@ -60,12 +61,17 @@ idle_option = number_option (codes "idle") 1 MAX_IDLE
 abbrev pub log_option : Rule
 log_option = record (new_rule (codes "log")) { long = Some (codes "log"); action = Some SetTrue }
 
+-- `--metrics ADDRESS`
+abbrev pub metrics_option : Rule
+metrics_option = record (new_rule (codes "metrics")) { long = Some (codes "metrics"); value_names = 1 }
+
 abbrev pub pipe_words : App
 pipe_words = with_rule (with_rule (new_app (codes "pipe")) hex_option) at_option
 
 abbrev pub listen_words : App
-listen_words = with_rule (with_rule (with_rule (with_rule (with_rule (with_rule (with_rule (with_rule (with_rule (new_app (codes "listen"))
-    address_option) places_option) clients_option) topics_option) memory_option) connections_option) endless_option) idle_option) log_option
+listen_words = with_rule (with_rule (with_rule (with_rule (with_rule (with_rule (with_rule (with_rule (with_rule (with_rule (new_app (codes "listen"))
+    address_option) places_option) clients_option) topics_option) memory_option) connections_option) endless_option) idle_option) log_option)
+    metrics_option
 
 -- the words after the program's name: one of its commands, with its options
 abbrev pub rstored_words : App
@@ -135,18 +141,19 @@ IsEndOf rows connections = IsNumberGiven rows (codes "connections") 1 MAX_CONNEC
 -- what the values of a command's options ask for
 abbrev pub IsRunOf : Text → List Row → Run → Type 0
 IsRunOf name rows (Pipe hex at) = (name ≡ codes "pipe") × IsNumberOf rows (codes "at") 0 (2 ^ 64 - 1) at × IsFlagOf rows (codes "hex") hex
-IsRunOf name rows (Listen address places clients topics memory connections idle log) = (name ≡ codes "listen")
+IsRunOf name rows (Listen address places clients topics memory connections idle log metrics) = (name ≡ codes "listen")
     × (first_of (codes "address") rows ≡ Some (string_bytes address))
     × IsNumberOf rows (codes "places") 1 MAX_PLACES places × AreClientsOf rows places clients
     × IsNumberOf rows (codes "topics") 1 MAX_TOPICS topics
     × IsSizeGiven rows (codes "memory") memory
     × IsEndOf rows connections
     × IsNumberGiven rows (codes "idle") 1 MAX_IDLE idle × IsFlagOf rows (codes "log") log
+    × (first_of (codes "metrics") rows ≡ option_map string_bytes metrics)
 
 -- each number is in its range
 abbrev pub IsInRange : Run → Type 0
 IsInRange (Pipe hex at) = at ≤ 2 ^ 64 - 1
-IsInRange (Listen address places clients topics memory connections idle log) = (1 ≤ places) × (places ≤ MAX_PLACES) × (places ≤ clients)
+IsInRange (Listen address places clients topics memory connections idle log metrics) = (1 ≤ places) × (places ≤ MAX_PLACES) × (places ≤ clients)
     × (clients ≤ MAX_CLIENTS) × (1 ≤ topics) × (topics ≤ MAX_TOPICS) × IfSome memory (λ bytes. (1 ≤ bytes) × (bytes < 2 ^ 64))
     × IfSome connections (λ count. (1 ≤ count) × (count ≤ MAX_CONNECTIONS)) × IfSome idle (λ seconds. (1 ≤ seconds) × (seconds ≤ MAX_IDLE))
 

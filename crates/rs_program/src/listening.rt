@@ -9,8 +9,8 @@ use std::sync::Wait;
 use std::thread::Threads;
 use std::time::Clock;
 
-/// Serves clients by TCP until so many have connected. The address is printed before the first is accepted. With `log`, lines about each
-/// connection and the store are written to standard error.
+/// Serves clients by TCP until so many have connected. The address is printed before the first is accepted, and then that of `metrics`, if
+/// it is given: there is told what is counted. With `log`, lines about each connection and the store are written to standard error.
 ///
 /// # Errors
 ///
@@ -18,6 +18,7 @@ use std::time::Clock;
 pub(crate) fn listen<H>(
     rt: &H,
     address: &str,
+    metrics: Option<String>,
     settings: Settings,
     log: bool,
 ) -> Result<Summary, ListenFault>
@@ -38,9 +39,17 @@ where
     let connections = settings.connections;
     // By the plain handle, since the one that logs looks up no name.
     let server = Server::bind(rt, rt.alloc(), address, settings)?;
+    let server = match metrics {
+        Some(metrics) => server.with_metrics(rt, metrics.as_str())?,
+        None => server,
+    };
     let bound = server.address()?;
+    let told = server.metrics_address()?;
     // If nobody reads the output, clients are served all the same.
     let _ = println!(rt; "rstored: listening on {bound}");
+    if let Some(told) = told {
+        let _ = println!(rt; "rstored: metrics on {told}");
+    }
     let summary = server.run(logged(rt, log))?;
     let _ = println!(rt; "rstored: served {connections}");
     Ok(summary)

@@ -137,6 +137,7 @@ where
                 connections,
                 idle,
                 log,
+                metrics,
             },
         ) => {
             let settings = Settings {
@@ -148,7 +149,7 @@ where
                 clients,
                 idle: idle.map(Duration::from_secs),
             };
-            match listen(rt, address.as_str(), settings, log) {
+            match listen(rt, address.as_str(), metrics, settings, log) {
                 Ok(summary) => server_outcome(summary, places.get(), clients),
                 Err(fault) => Err(RunFault::Listen(log.then_some(fault))),
             }

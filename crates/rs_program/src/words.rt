@@ -48,6 +48,8 @@ pub enum Run {
         idle: Option<u64>,
         /// Whether lines about each connection are written to standard error.
         log: bool,
+        /// The address by which metrics are told, as it was given. To nobody, if it is not given.
+        metrics: Option<String>,
     },
 }
 

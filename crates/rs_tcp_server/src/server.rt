@@ -10,10 +10,13 @@ use crate::fault::ListenFault;
 use crate::full_log::FullLog;
 use crate::opening::turns;
 use crate::polling::time_polls;
+use crate::telling::{descriptors_to_tell, end_telling, new_metrics, share, start_telling};
 use crate::turn::ClientWord;
 use log::{Log, warn};
 use rs_intake::blank_queue;
 use rs_message::{LineCount, MAX_LINES, PlaceCount};
+use rs_metrics::Limits;
+use rs_metrics_server::MetricsServer;
 use rs_places::run_store;
 use rs_places_pool::Runner;
 use rs_store::TopicLimit;
@@ -38,6 +41,10 @@ pub struct Server {
     idle: Option<Duration>,
     // How many clients may wait to be accepted, as the system has it.
     waiting: u64,
+    topics: TopicLimit,
+    memory: Option<u64>,
+    // What tells its numbers, if anybody is told.
+    metrics: Option<MetricsServer>,
     ghost each: { places ≡ blank.places },
 }
 
@@ -108,6 +115,9 @@ impl Server {
                     clients,
                     idle,
                     waiting: waiting_limit(rt).unwrap_or(u64::MAX),
+                    topics,
+                    memory,
+                    metrics: None,
                 })
             }
             Err(error) => Err(ListenFault::from(error)),
@@ -123,6 +133,63 @@ impl Server {
         match self.listener.address(self.alloc) {
             Ok(address) => Ok(address),
             Err(error) => Err(ListenFault::Address(error)),
+        }
+    }
+
+    /// The same server. While it runs, a thread tells by HTTP what is counted (`rs_metrics_server`): it binds this address, which is one as
+    /// those of clients are.
+    ///
+    /// # Errors
+    ///
+    /// [`Metrics`](ListenFault::Metrics) if `address` is not an address, is in use, or may not be bound.
+    pub fn with_metrics<H: Net<Listener = TcpListener, Stream = TcpStream>>(
+        self,
+        rt: &H,
+        address: &str,
+    ) -> Result<Server, ListenFault>
+        ensures same { IfOk result (λ server. (server.blank.limit ≡ self.blank.limit) × (server.clients ≡ self.clients) × (server.places ≡ self.places)) }
+    {
+        let Server {
+            alloc,
+            listener,
+            blank,
+            places,
+            clients,
+            idle,
+            waiting,
+            topics,
+            memory,
+            metrics: _before,
+        } = self;
+        match MetricsServer::bind(rt, alloc, address) {
+            Ok(metrics) => Ok(Server {
+                alloc,
+                listener,
+                blank,
+                places,
+                clients,
+                idle,
+                waiting,
+                topics,
+                memory,
+                metrics: Some(metrics),
+            }),
+            Err(error) => Err(ListenFault::Metrics(error)),
+        }
+    }
+
+    /// The address that was bound for metrics, with its port, if one was.
+    ///
+    /// # Errors
+    ///
+    /// [`Metrics`](ListenFault::Metrics) if the system does not tell it, or memory is refused.
+    pub fn metrics_address(&self) -> Result<Option<String>, ListenFault> {
+        let Some(metrics) = &self.metrics else {
+            return Ok(None);
+        };
+        match metrics.address() {
+            Ok(address) => Ok(Some(address)),
+            Err(error) => Err(ListenFault::Metrics(error)),
         }
     }
 
@@ -144,12 +211,12 @@ impl Server {
     /// # Errors
     ///
     /// [`NoMemory`](ListenFault::NoMemory) if memory is refused for the store, the queue, the gates or the threads,
-    /// [`NoThread`](ListenFault::NoThread) if the thread of the store's writer, or that of the first client or the first lane, cannot be started,
-    /// [`Address`](ListenFault::Address) if the descriptors are refused by which clients are watched. No client was served, as the code is made; no clause says so.
-    pub fn run<H: Clock + Log + Threads + Wait + Copy + Send + Sync + 'static>(
-        self,
-        rt: H,
-    ) -> Result<Summary, ListenFault>
+    /// [`NoThread`](ListenFault::NoThread) if the thread of the store's writer, that of the first client or the first lane, or that for metrics
+    /// cannot be started, [`Address`](ListenFault::Address) if the descriptors are refused by which clients are watched, or by which the thread
+    /// for metrics is ended. No client was served, as the code is made; no clause says so.
+    pub fn run<
+        H: Clock + Log + Threads + Files + Wait + AllocGlobal + Copy + Send + Sync + 'static,
+    >(self, rt: H) -> Result<Summary, ListenFault>
         ensures run { IfOk result (λ summary. (before : List Connections) × (after : List Connections) × (version : ℕ) × (cause : Cause)
             × IsStoreRun self.blank.limit summary.clients before after version summary.changes cause) }
         ensures alone { IfOk result (λ summary. self.clients ≤ self.places → summary.clients ≡ self.places) }
@@ -164,21 +231,43 @@ impl Server {
             clients,
             idle,
             waiting,
+            topics,
+            memory,
+            metrics: server,
         } = self;
         let alone = u16::from(places.get());
-        let lines = line_count(&rt, clients, alone);
+        let lines = line_count(&rt, clients, alone, descriptors_to_tell(&server));
+        let limits = Limits {
+            clients: u64::from(lines.get()),
+            topics: u64::from(topics.get()),
+            bytes: memory,
+        };
+        let metrics = new_metrics(&rt, alloc, &server, limits)?;
         tell_of_waiting(&rt, lines.get(), waiting);
         let queue = blank_queue(alloc, lines)?;
         let full = FullLog::new(queue.fullness()?);
-        let queue = queue.with_polls(time_polls(&rt, alloc));
+        let queue = queue
+            .with_polls(time_polls(&rt, alloc))
+            .with_metrics(share(&metrics)?);
         let word = if lines.get() > alone {
             ClientWord::Client
         } else {
             ClientWord::Place
         };
-        let turns = turns(rt, alloc, Arc::try_clone(&listener)?, full, lines, word)?;
+        let turns = turns(
+            rt,
+            alloc,
+            Arc::try_clone(&listener)?,
+            full,
+            lines,
+            word,
+            &metrics,
+        )?;
         let runner = make_runner(rt, alloc, listener, lines.get(), alone, idle)?;
-        let end = run_store(rt, alloc, blank, queue, turns, runner)?;
+        let telling = start_telling(rt, alloc, server, metrics)?;
+        let end = run_store(rt, alloc, blank, queue, turns, runner);
+        end_telling(&rt, telling);
+        let end = end?;
         Ok(Summary {
             threads: end.threads,
             clients: lines.get(),
@@ -229,42 +318,43 @@ fn wanted_clients(clients: u16, places: u16) -> u16
     }
 }
 
-/// How many clients are served, each with a line: as many as wanted, or fewer if there are too few descriptors.
-fn line_count<H: Log>(rt: &H, clients: u16, places: u16) -> LineCount
+/// How many clients are served, each with a line: as many as wanted, or fewer if there are too few descriptors. To tell numbers takes `told`
+/// of these.
+fn line_count<H: Log>(rt: &H, clients: u16, places: u16, told: u8) -> LineCount
     requires some { 0 < places }
     requires small { places < MAX_LINES }
     ensures alone { clients ≤ places → result ≡ places }
     ensures more { places < clients → (places < result) × (result ≤ clients) }
 {
     let wanted = wanted_clients(clients, places);
-    let Some(lines) = LineCount::new(affordable(rt, wanted, places)) else {
+    let Some(lines) = LineCount::new(affordable(rt, wanted, places, told)) else {
         unreachable!()
     };
     lines
 }
 
 /// How many descriptors are needed beside those of the clients: four for the listener and the standard streams, and if there are more
-/// clients than places, one for each place and one more, by which clients are watched.
-fn other_descriptors(clients: u16, places: u16) -> u64
-    ensures more { places < clients → result ≡ places + 5 }
-    ensures no_more { clients ≤ places → result ≡ 4 }
+/// clients than places, one for each place and one more, by which clients are watched. To tell numbers takes `told` more.
+fn other_descriptors(clients: u16, places: u16, told: u8) -> u64
+    ensures more { places < clients → result ≡ places + 5 + told }
+    ensures no_more { clients ≤ places → result ≡ 4 + told }
 {
     if clients > places {
-        u64::from(places) + 5
+        u64::from(places) + 5 + u64::from(told)
     } else {
-        4
+        4 + u64::from(told)
     }
 }
 
 /// How many of these clients are served: all, or if there are more than places, as many as the process has descriptors for, and still more
 /// than there are places. If it has too few, the log has a warning. Each client that waits is given a connection, so the accepts of more
 /// would fail all the time.
-fn affordable<H: Log>(rt: &H, clients: u16, places: u16) -> u16
+fn affordable<H: Log>(rt: &H, clients: u16, places: u16, told: u8) -> u16
     ensures most { result ≤ clients }
     ensures more { places < clients → places < result }
     ensures no_more { clients ≤ places → result ≡ clients }
 {
-    let others = other_descriptors(clients, places);
+    let others = other_descriptors(clients, places, told);
     let needed = u64::from(clients) + others;
     let limit = descriptor_limit().unwrap_or(u64::MAX);
     if limit >= needed {

@@ -1,8 +1,8 @@
 //! Each number against what the test counted.
 
 use rs_metrics::{
-    COUNTERS, Counter, End, FAMILIES, FilterOutcome, Limits, Metrics, Outcome, Qos, Snapshot,
-    Source, resident_pages,
+    COUNTERS, Change, Counter, End, FAMILIES, FilterOutcome, Limits, Meter, Metrics, Outcome, Qos,
+    Snapshot, Source, WriterMeter, resident_pages,
 };
 use std::alloc::{AllocError, Global};
 use std::sync::Arc;
@@ -85,11 +85,17 @@ fn count_all(metrics: &Metrics, line: u16) {
 }
 
 fn add_all(metrics: &Metrics, line: u16) {
-    metrics.add_packets_in(line, times(Counter::PacketsIn));
+    for _ in 0..times(Counter::PacketsIn) {
+        metrics.count_packet_in(line);
+    }
+    for _ in 0..times(Counter::PacketsOut) {
+        metrics.count_packet_out(line);
+    }
     metrics.add_bytes_in(line, times(Counter::BytesIn));
     metrics.add_bytes_out(line, times(Counter::BytesOut));
     metrics.add_replayed(line, times(Counter::Replayed));
-    metrics.add_sent(line, times(Counter::Sent));
+    metrics.add_sent(line, times(Counter::Sent).saturating_add(7));
+    metrics.take_back_sent(line, 7);
 }
 
 /// How often [`count_all`] counts it, or by how much: a number of its own for each counter.
@@ -169,6 +175,74 @@ fn eight_threads_count(rt: HostRuntime) -> Result<(), Fail> {
     ] {
         assert!(rt; snapshot.number(source) == number);
     }
+    Ok(())
+}
+
+/// Counts each thing some times, and what is not counted also.
+fn count_some(meter: &Meter) {
+    for _ in 0..3 {
+        meter.count_opened();
+    }
+    meter.count_ended(End::CutInput);
+    meter.count_packet_in();
+    meter.count_packet_in();
+    meter.count_packet_out();
+    meter.add_bytes_in(100);
+    meter.add_bytes_out(200);
+    meter.count_change(Change::Set(Qos::ExactlyOnce), Outcome::StoreFull);
+    meter.count_change(Change::Clear, Outcome::Stored);
+    meter.count_filter(FilterOutcome::Answered, 40);
+    meter.count_filter(FilterOutcome::TooManyMessages, 0);
+    meter.add_sent(9);
+    meter.take_back_sent(2);
+}
+
+/// The counters that [`count_some`] changes, and the numbers that they have then.
+const SOME: &[(Counter, u64)] = &[
+    (Counter::Opened, 3),
+    (Counter::Ended(End::CutInput), 1),
+    (Counter::PacketsIn, 2),
+    (Counter::PacketsOut, 1),
+    (Counter::BytesIn, 100),
+    (Counter::BytesOut, 200),
+    (Counter::Set(Qos::ExactlyOnce, Outcome::StoreFull), 1),
+    (Counter::Clear(Outcome::Stored), 1),
+    (Counter::Filter(FilterOutcome::Answered), 1),
+    (Counter::Filter(FilterOutcome::TooManyMessages), 1),
+    (Counter::Replayed, 40),
+    (Counter::Sent, 7),
+];
+
+/// Whether only these counters have a number.
+fn has_some(snapshot: &Snapshot) -> bool {
+    for (counter, number) in SOME {
+        if snapshot.count(*counter) != *number {
+            return false;
+        }
+    }
+    snapshot.counts.iter().filter(|number| **number > 0).count() == SOME.len()
+}
+
+#[test]
+fn meters_count_if_there_are_metrics(rt: HostRuntime) -> Result<(), Fail> {
+    let alloc = rt.alloc();
+    let metrics = Arc::new(alloc, Metrics::new(alloc, LIMITS, 0)?).map_err(|_| AllocError)?;
+    let shared = Some(Arc::try_clone(&metrics)?);
+    let writer = WriterMeter::new(Some(Arc::try_clone(&metrics)?));
+    assert!(rt; writer.is_needed());
+    count_some(&Meter::new(&shared, 7)?.again()?);
+    writer.set_taking(true);
+    writer.set_content(99, 17, 12_345);
+    writer.set_taken(4);
+    let snapshot = metrics.snapshot(None);
+    assert!(rt; has_some(&snapshot));
+    assert!(rt; (snapshot.is_taking, snapshot.taken, snapshot.version) == (true, 4, 99));
+    assert!(rt; (snapshot.topics, snapshot.bytes) == (17, 12_345));
+    // None of these has any.
+    count_some(&Meter::none());
+    count_some(&Meter::new(&None, 7)?);
+    assert!(rt; !WriterMeter::new(None).is_needed());
+    assert!(rt; has_some(&metrics.snapshot(None)));
     Ok(())
 }
 

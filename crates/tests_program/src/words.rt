@@ -44,7 +44,7 @@ fn words_ask_for_a_pipe(rt: HostRuntime) -> Result<(), Fail> {
 fn words_ask_to_listen(rt: HostRuntime) -> Result<(), Fail> {
     let alloc = rt.alloc();
     let all =
-        "listen --address [::1]:0 --places 64 --clients 10000 --topics 65536 --memory 17179869183G --connections 1000000 --idle 86400 --log";
+        "listen --address [::1]:0 --places 64 --clients 10000 --topics 65536 --memory 17179869183G --connections 1000000 --idle 86400 --log --metrics [::1]:9100";
     let commands = [
         (
             "listen --address a:1 --connections 1",
@@ -56,6 +56,7 @@ fn words_ask_to_listen(rt: HostRuntime) -> Result<(), Fail> {
             Some(1),
             None,
             false,
+            None,
         ),
         (
             "listen --connections 7 --topics 1 --places 1 --address x",
@@ -67,6 +68,7 @@ fn words_ask_to_listen(rt: HostRuntime) -> Result<(), Fail> {
             Some(7),
             None,
             false,
+            None,
         ),
         (
             "listen --log --idle 1 --connections 2 --address x --clients 4 --memory 1",
@@ -78,9 +80,10 @@ fn words_ask_to_listen(rt: HostRuntime) -> Result<(), Fail> {
             Some(2),
             Some(1),
             true,
+            None,
         ),
         (
-            "listen --address=:: --connections=+09 --places=02 --memory=02K",
+            "listen --address=:: --connections=+09 --places=02 --memory=02K --metrics x",
             "::",
             2,
             2,
@@ -89,6 +92,7 @@ fn words_ask_to_listen(rt: HostRuntime) -> Result<(), Fail> {
             Some(9),
             None,
             false,
+            Some("x"),
         ),
         (
             all,
@@ -100,9 +104,10 @@ fn words_ask_to_listen(rt: HostRuntime) -> Result<(), Fail> {
             Some(MAX_CONNECTIONS),
             Some(MAX_IDLE),
             true,
+            Some("[::1]:9100"),
         ),
         (
-            "listen --endless --idle=3 --clients=5 --address=e --memory=512M",
+            "listen --endless --metrics=m --idle=3 --clients=5 --address=e --memory=512M",
             "e",
             4,
             5,
@@ -111,9 +116,21 @@ fn words_ask_to_listen(rt: HostRuntime) -> Result<(), Fail> {
             None,
             Some(3),
             false,
+            Some("m"),
         ),
     ];
-    for (command, address, places, clients, topics, memory, connections, idle, log) in commands {
+    for (
+        command,
+        address,
+        places,
+        clients,
+        topics,
+        memory,
+        connections,
+        idle,
+        log,
+        metrics,
+    ) in commands {
         let wanted = Run::Listen {
             address: String::from_str(alloc, address)?,
             places: PlaceCount::new(places).ok_or("places")?,
@@ -123,6 +140,10 @@ fn words_ask_to_listen(rt: HostRuntime) -> Result<(), Fail> {
             connections,
             idle,
             log,
+            metrics: match metrics {
+                Some(metrics) => Some(String::from_str(alloc, metrics)?),
+                None => None,
+            },
         };
         assert!(rt; asks(alloc, command, &wanted)?, "{command}");
     }
@@ -253,6 +274,14 @@ const REFUSED: &[(&str, &str)] = &[
         "the argument '--memory <SIZE>' cannot be used multiple times",
     ),
     (
+        "listen --address a:1 --endless --metrics",
+        "a value is required for '--metrics <ADDRESS>'",
+    ),
+    (
+        "listen --address a:1 --endless --metrics a --metrics a",
+        "the argument '--metrics <ADDRESS>' cannot be used multiple times",
+    ),
+    (
         "listen --address a:1 --connections 1 --log --log",
         "the argument '--log' cannot be used multiple times",
     ),
@@ -293,6 +322,8 @@ fn help_and_the_version_are_shown(rt: HostRuntime) -> Result<(), Fail> {
         ("listen --help", "There is no TLS"),
         ("listen --help", "--places <1-64>"),
         ("listen --help", "--memory <SIZE>"),
+        ("listen --help", "--metrics <ADDRESS>"),
+        ("listen --help", "GET /metrics"),
         ("listen --help", "[default: 10000]"),
         ("--version", "rstored 0.1.0"),
     ];

@@ -1,7 +1,9 @@
 //! The values of a command's options.
 
 ghost use Rattle.std.specs.Prelude.{◌≡◌, ◌<◌, ◌≤◌, ◌^◌, IfOk, IfSome, codes};
-ghost use Rattle.clap.specs.Words.{found_of, rows_of};
+ghost use Rattle.std.specs.Option.{option_map};
+ghost use Rattle.std.specs.String.{string_bytes};
+ghost use Rattle.clap.specs.Words.{first_of, found_of, rows_of};
 ghost use Rattle.rs_message.specs.declared.entry.TheConstants.{MAX_PLACES};
 ghost use Rattle.rs_store.specs.declared.limit.TheConstants.{MAX_TOPICS};
 ghost use Rattle.rs_program.specs.CommandLine.{AreClientsOf, IsFlagOf, IsInRange, IsNumberGiven, IsNumberOf, IsRunOf, IsSizeGiven};
@@ -56,6 +58,7 @@ pub(super) fn listen_of(alloc: Global, found: &ArgMatches<'_>) -> Result<Run, Wo
     if connections.is_some() == flag(found, "endless") {
         return Err(refused(alloc, "error: give either --connections or --endless\n"));
     }
+    let metrics = text_given(alloc, found, "metrics")?;
     let Ok(address) = String::from_str(alloc, address) else {
         return Err(WordsFault::NoMemory);
     };
@@ -68,6 +71,7 @@ pub(super) fn listen_of(alloc: Global, found: &ArgMatches<'_>) -> Result<Run, Wo
         connections,
         idle,
         log: flag(found, "log"),
+        metrics,
     })
 }
 
@@ -133,6 +137,23 @@ fn size_given(found: &ArgMatches<'_>, option: &str) -> Option<Option<u64>>
             let bytes = read_size(text)?;
             Some(Some(bytes))
         }
+    }
+}
+
+/// The text of an option that may be left out.
+fn text_given(
+    alloc: Global,
+    found: &ArgMatches<'_>,
+    option: &str,
+) -> Result<Option<String>, WordsFault>
+    ensures { IfOk result (λ text. first_of option.now (rows_of (found_of found.now)) ≡ option_map string_bytes text) }
+{
+    match found.get_str(option) {
+        None => Ok(None),
+        Some(text) => match String::from_str(alloc, text) {
+            Ok(text) => Ok(Some(text)),
+            Err(_) => Err(WordsFault::NoMemory),
+        },
     }
 }
 

@@ -12,7 +12,7 @@ use Rattle.rs_places.specs.Gates.{IsOtherPending, mark_of}
 use Rattle.rs_places_turns.specs.Shared.{SharedValue, operations_of}
 use Rattle.rs_places.proofs.Submitting.{other_pending, same_mark, sends_it, submits_err, takes_pending, used_if_open}
 use Rattle.rs_places_turns.proofs.Receipts.{submits_ok}
-use Rattle.rs_places.proofs.shared_gate.SharedGateGate.submit.Goals as goal
+use Rattle.rs_places.proofs.shared_gate.SharedGate.hand_over.Goals as goal
 
 pub returns-clause-list : goal.returns-clause-list
 returns-clause-list g c = λ seen knows.
