@@ -31,6 +31,28 @@ fn a_refused_put_makes_no_entry(rt: HostRuntime) -> Result<(), Fail> {
     check_steps(&rt, alloc, blank(alloc, 1, 2)?, &steps)
 }
 
+/// Serials beyond 2^24, and about 2^32 and 2^64, which no run counts up to. Each place has its own.
+#[test]
+fn serials_rise_up_to_the_last(rt: HostRuntime) -> Result<(), Fail> {
+    let alloc = rt.alloc();
+    let steps = [
+        Step::Put(Change::Set(1, 0x0100_0001, b'a', 0, None), (1, 0)),
+        Step::Put(Change::Set(1, 0xFFFF_FFFF, b'b', 0, None), (2, 0)),
+        Step::Put(Change::Set(1, 0x1_0000_0000, b'c', 0, None), (3, 0)),
+        Step::Put(Change::Clear(1, 0xFFFF_FFFF, b'a'), (0, 31)),
+        Step::Put(Change::Clear(1, u64::MAX - 1, b'a'), (4, 0)),
+        Step::Put(Change::Set(1, u64::MAX, b'd', 0, Some(10)), (5, 0)),
+        Step::Put(Change::Set(1, u64::MAX, b'd', 0, None), (0, 31)),
+        Step::Put(Change::Clear(2, 1, b'b'), (6, 0)),
+        Step::Put(Change::Set(2, u64::MAX, b'e', 0, None), (7, 0)),
+        // The Sweep has a serial of the writer's own.
+        Step::Put(Change::Set(3, 1, b'f', 20, None), (9, 0)),
+        Step::At(0, Look::Learns(7)),
+        Step::At(0, Look::Reads(20, 9, b"c e f ")),
+    ];
+    check_steps(&rt, alloc, blank(alloc, 3, 1)?, &steps)
+}
+
 /// A seat's token is of what it knows, and not of what the writer published since.
 #[test]
 fn a_seat_knows_no_more_than_it_learned(rt: HostRuntime) -> Result<(), Fail> {
