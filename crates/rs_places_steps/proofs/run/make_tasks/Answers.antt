@@ -1,4 +1,7 @@
-use Rattle.std.proofs.Common.{◌⊎◌, ⊎_elim, ◌≡◌, inl, inr, sym, ◌∙◌, ap, length, arith}
+use Rattle.std.proofs.Common.{◌⊎◌, ⊎_elim, ◌≡◌, inl, inr, sym, subst, ◌∙◌, ap, length, None, rules, arith}
+use Rattle.std.specs.List.{AllByRecursion}
+use Rattle.std.proofs.lemmas.List.Elements.{recursion_from_All}
+use Rattle.rs_places_turns.specs.Turns.{IsOut}
 use Rattle.rs_places_turns.proofs.Each.{length_more}
 use Rattle.rs_places_turns.proofs.Places.{next_place, no_places}
 use Rattle.rs_places_steps.proofs.Making.{made_all, made_more}
@@ -22,8 +25,13 @@ make_task-requires g c =
     let F = λ l. AllByRecursion (λ turn. IsOut None (g.T.Turn.connections turn).out) l in
     (subst F c.in-Some.ensures.steps.0.0 c.loop-turn.invariant.free).0
 
-pub loop-turn-entry : goal.loop-turn-entry
-loop-turn-entry g c = c
+pub loop-turn-init : goal.loop-turn-init
+loop-turn-init g c = record {
+  made = search rules;
+  free = recursion_from_All _ _ c.requires;
+  fits = search rules;
+  fits_too = search rules;
+}
 
 pub returns : goal.returns
 returns g c =
