@@ -1,4 +1,4 @@
-use Rattle.std.proofs.Common.{◌⊎◌, ⊎_elim, ◌≡◌, inl, inr, sym, subst, ◌∙◌, ap, length, None, rules, arith}
+use Rattle.std.proofs.Common.{◌⊎◌, ⊎_elim, ◌≡◌, inl, inr, sym, subst, ◌∙◌, ap, length, List, None, rules, arith}
 use Rattle.std.specs.List.{AllByRecursion}
 use Rattle.std.proofs.lemmas.List.Elements.{recursion_from_All}
 use Rattle.rs_places_turns.specs.Turns.{IsOut}
@@ -11,7 +11,7 @@ pub loop-turn-preserved : goal.loop-turn-preserved
 loop-turn-preserved g c =
     let i = c.loop-turn.invariant in
     let steps = c.in-Some.ensures.steps in
-    let F = λ l. AllByRecursion (λ turn. IsOut None (g.T.Turn.connections turn).out) l in
+    let F : List g.row.T.Denot → Type 0 = λ l. AllByRecursion (λ turn. IsOut None (g.T.Turn.connections turn).out) l in
     let first = next_place g.T.Turn.connections _ _ _ _ _ _ steps.0.0 steps.1.0 in
     record {
       made = made_more _ _ _ _ _ _ _ _ c.push_reserved-in-loop-turn.ensures.items c.in_ok-task.ensures first i.made;
@@ -22,13 +22,13 @@ loop-turn-preserved g c =
 
 pub make_task-requires : goal.make_task-requires
 make_task-requires g c =
-    let F = λ l. AllByRecursion (λ turn. IsOut None (g.T.Turn.connections turn).out) l in
+    let F : List g.row.T.Denot → Type 0 = λ l. AllByRecursion (λ turn. IsOut None (g.T.Turn.connections turn).out) l in
     (subst F c.in-Some.ensures.steps.0.0 c.loop-turn.invariant.free).0
 
 pub loop-turn-init : goal.loop-turn-init
 loop-turn-init g c = record {
   made = search rules;
-  free = recursion_from_All _ _ c.requires;
+  free = rw c.into_iter-turn-iterator.ensures.into_iter_gives (rw c.zip-turn-items.ensures.first (rw c.into_iter.ensures.rest (recursion_from_All _ _ c.requires)));
   fits = search rules;
   fits_too = search rules;
 }
