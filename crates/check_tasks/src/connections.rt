@@ -322,7 +322,7 @@ pub fn work<H: Wait + Threads + Copy + Send + Sync + 'static>(
         is_wrong: false,
     };
     let mut turns = Vec::new(alloc);
-    turns.push(turn)?;
+    turns.push(FreeTurn::new(turn))?;
     let runner = Runner::<NoWatch>::OneEach;
     let Ok(end) = run_store(*rt, alloc, blank, queue, turns, runner) else {
         return Err(Failure::NoMemory);

@@ -6,7 +6,7 @@ ghost use Rattle.rs_places_turns.specs.Turns.{TakesBack, none_given};
 
 use crate::script::Counts;
 use kit_test::{CONNACK, CONNECT, concat, is_concat};
-use rs_places_turns::{Connection, EndedConnection, Turn};
+use rs_places_turns::{Connection, EndedConnection, FreeTurn, Turn};
 use rs_server::{Clock, Moments, Served};
 use rs_version::{StoreName, Told};
 use std::alloc::{AllocError, Global};
@@ -108,17 +108,18 @@ pub fn publishers(
     counts: &Arc<Counts>,
     clients: u16,
     each: u64,
-) -> Result<Vec<Publisher>, AllocError> {
+) -> Result<Vec<FreeTurn<Publisher>>, AllocError> {
     let mut turns = Vec::with_capacity(alloc, usize::from(clients))?;
     for place in 1..=clients {
-        turns.push(Publisher {
+        let turn = Publisher {
             alloc,
             counts: Arc::try_clone(counts)?,
             place,
             each,
             given: 0,
             version: 0,
-        })?;
+        };
+        turns.push(FreeTurn::new(turn))?;
     }
     Ok(turns)
 }

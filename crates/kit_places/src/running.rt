@@ -1,16 +1,13 @@
 //! A run of a store over connections from memory.
 
-ghost use Rattle.std.specs.Prelude.{All, None};
-ghost use Rattle.rs_places_turns.specs.Turns.{IsOut};
-
 use crate::rows::{Row, put_rows, scripts};
-use crate::script::Counts;
+use crate::script::{Counts, free_scripts};
 use kit_test::blank_store;
 use rs_intake::{Cause, blank_queue};
 use rs_message::{LineCount, MAX_LINES, PlaceCount};
 use rs_places::{StoreEnd, run_store};
 use rs_places_pool::{NoWatch, Runner, Watch};
-use rs_places_turns::Turn;
+use rs_places_turns::{FreeTurn, Turn};
 use std::alloc::Global;
 use std::sync::atomic::Ordering;
 use std::sync::{Arc, Wait};
@@ -62,7 +59,7 @@ pub fn run<
     rt: R,
     alloc: Global,
     (topics, seats): (u32, u8),
-    turns: Vec<T>,
+    turns: Vec<FreeTurn<T>>,
     counts: &Counts,
     runner: Runner<W>,
 ) -> Result<Played, Fail>
@@ -70,7 +67,6 @@ where
     T::In: Send + 'static,
     T::Out: Send + 'static,
     T::Time: Send + 'static,
-    requires { All (λ turn. IsOut None (T.connections turn).out) turns.items }
 {
     let count = turns.len();
     if count > usize::from(MAX_LINES) {
@@ -95,6 +91,7 @@ pub fn play<R: Threads + Wait + Copy + Send + Sync + 'static>(
     let counts = Arc::new(alloc, Counts::new())?;
     let mut turns = scripts(alloc, &counts, places)?;
     put_rows(alloc, turns.as_mut_slice(), rows)?;
+    let turns = free_scripts(alloc, turns)?;
     let runner = Runner::<NoWatch>::OneEach;
     run(rt, alloc, (topics, places), turns, &counts, runner)
 }

@@ -1,11 +1,10 @@
 //! A whole store: its writer on a thread of its own, and its clients, each with a line of its own, from the first connection to the
 //! settlement.
 
-ghost use Rattle.std.specs.Prelude.{◌≡◌, [], IfOk, All, List, None, length, map};
+ghost use Rattle.std.specs.Prelude.{◌≡◌, [], IfOk, All, List, length, map};
 ghost use Rattle.rs_message.specs.declared.entry.Entry.{Entry};
 ghost use Rattle.rs_places.specs.Gates.{handed_on};
 ghost use Rattle.rs_places.specs.Store.{IsStoreRun, gates_of};
-ghost use Rattle.rs_places_turns.specs.Turns.{IsOut};
 ghost use Rattle.rs_version.specs.Writer.{kept_of};
 
 use crate::seats::Seats;
@@ -15,7 +14,7 @@ use rs_intake::{BlankQueue, Cause, Ended, Queue, run_writer};
 use rs_intake_line::{Intake, LineName, SeatLine};
 use rs_places_pool::{Runner, Watch};
 use rs_places_steps::run_places;
-use rs_places_turns::{FreeGate, PlacesEnd, StoreFault, Turn};
+use rs_places_turns::{FreeGate, FreeTurn, PlacesEnd, StoreFault, Turn};
 use rs_version::{Blank, Seat, Told, VersionWriter};
 use std::alloc::{AllocError, Global};
 use std::marker::Brand;
@@ -142,9 +141,8 @@ fn start_writer<
 }
 
 /// Runs a store that is empty at first: serves a turn for each client, as [`run_places`] does with this runner, with the writer on a thread
-/// of its own, and settles. No connection of a turn is out. Each client has a line of its own, whose number is its place: the first turn
-/// goes with place 1, and so on. The clients read by the seats of `blank`. If there are as many as clients, each has one, and otherwise
-/// they share them.
+/// of its own, and settles. Each client has a line of its own, whose number is its place: the first turn goes with place 1, and so on. The
+/// clients read by the seats of `blank`. If there are as many as clients, each has one, and otherwise they share them.
 ///
 /// The contract is one statement about the run, `IsStoreRun`: there is one legal history, which came to be by the outcomes of the
 /// entries that the writer took, all from these places, and published, but for its last entry, if that is held; all lists that any
@@ -165,17 +163,16 @@ pub fn run_store<
     alloc: Global,
     blank: Blank,
     queue: BlankQueue,
-    turns: Vec<T>,
+    turns: Vec<FreeTurn<T>>,
     runner: Runner<W>,
 ) -> Result<StoreEnd<T>, StoreFault>
 where
     T::In: Send + 'static,
     T::Out: Send + 'static,
     T::Time: Send + 'static,
-    requires turns { queue.places ≡ length turns.items }
-    requires free { All (λ turn. IsOut None (T.connections turn).out) turns.items }
-    ensures { IfOk result (λ end. IsStoreRun blank.limit queue.places (map T.connections turns.items)
-        (map T.connections end.turns.items) end.version end.changes end.cause) }
+    requires { queue.places ≡ length turns.items }
+    ensures { IfOk result (λ end. IsStoreRun blank.limit queue.places turns.items (map T.connections end.turns.items)
+        end.version end.changes end.cause) }
 {
     run_named::<Brand, T, H, W>(rt, alloc, blank, queue, turns, runner)
 }
@@ -190,7 +187,7 @@ fn run_named<
     alloc: Global,
     blank: Blank,
     queue: BlankQueue,
-    turns: Vec<T>,
+    turns: Vec<FreeTurn<T>>,
     runner: Runner<W>,
 ) -> Result<StoreEnd<T>, StoreFault>
 where
@@ -200,9 +197,8 @@ where
     requires store { (blank.history ≡ N.history) × (blank.limit ≡ N.limit) }
     requires queue { (queue.name ≡ N.queue) × (queue.places ≡ N.places) }
     requires turns { queue.places ≡ length turns.items }
-    requires free { All (λ turn. IsOut None (T.connections turn).out) turns.items }
-    ensures { IfOk result (λ end. IsStoreRun blank.limit queue.places (map T.connections turns.items)
-        (map T.connections end.turns.items) end.version end.changes end.cause) }
+    ensures { IfOk result (λ end. IsStoreRun blank.limit queue.places turns.items (map T.connections end.turns.items)
+        end.version end.changes end.cause) }
 {
     let (writer, seats) = blank.open::<N, H>(rt)?;
     let (intake, lines, queue) = queue.open::<N>()?;

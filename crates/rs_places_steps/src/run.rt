@@ -1,9 +1,8 @@
 //! The clients of a store, served in steps until all are done.
 
-ghost use Rattle.std.specs.Prelude.{◌≡◌, ◌≤◌, [], All, length, map, vec_capacity, IfOk, None};
+ghost use Rattle.std.specs.Prelude.{◌≡◌, ◌≤◌, [], length, map, vec_capacity, IfOk};
 ghost use Rattle.std.specs.List.{AllZip};
 ghost use Rattle.rs_places_turns.specs.Places.{IsPlaceServed, left_at, places_of};
-ghost use Rattle.rs_places_turns.specs.Turns.{IsOut};
 ghost use Rattle.rs_places_turns.specs.Visits.{place_at};
 ghost use Rattle.rs_places_steps.specs.Begins.{place_of};
 
@@ -11,7 +10,9 @@ use crate::end_cell::{ClientEnd, client_ends};
 use crate::stages::FreeClient;
 use crate::task::Task;
 use rs_places_pool::{Runner, Watch};
-use rs_places_turns::{FreeGate, LineGate, PlaceEnd, PlacesEnd, StoreFault, StoreGate, Turn};
+use rs_places_turns::{
+    FreeGate, FreeTurn, LineGate, PlaceEnd, PlacesEnd, StoreFault, StoreGate, Turn,
+};
 use std::alloc::{AllocError, Global};
 use std::sync::Wait;
 use std::thread::{Threads, yield_now};
@@ -22,12 +23,12 @@ type EndAt<T, G> = PlaceEnd<<G as StoreGate>::Name, <G as LineGate>::End, T>;
 /// The client on its way, and what takes its end.
 fn make_task<T: Turn + Drop, G: LineGate + Drop>(
     alloc: Global,
-    turn: T,
+    turn: FreeTurn<T>,
     gate: FreeGate<G>,
 ) -> Result<(Task<T, G>, ClientEnd<T, G>), AllocError>
-    requires { IsOut None (T.connections turn).out }
-    ensures { IfOk result (λ made. place_of T.connections G.shared made.1.begun ≡ place_at (T.connections turn) gate) }
+    ensures { IfOk result (λ made. place_of T.connections G.shared made.1.begun ≡ place_at turn gate) }
 {
+    let turn = turn.into_turn();
     let gate = gate.into_gate();
     let (end, taken) = client_ends(alloc, &turn, &gate)?;
     Ok((Task::new(FreeClient::new(turn, gate), end), taken))
@@ -36,12 +37,11 @@ fn make_task<T: Turn + Drop, G: LineGate + Drop>(
 /// Each client on its way, and what takes the end of each.
 fn make_tasks<T: Turn + Drop, G: LineGate + Drop>(
     alloc: Global,
-    turns: Vec<T>,
+    turns: Vec<FreeTurn<T>>,
     gates: Vec<FreeGate<G>>,
 ) -> Result<(Vec<Task<T, G>>, Vec<ClientEnd<T, G>>), AllocError>
-    requires { All (λ turn. IsOut None (T.connections turn).out) turns.items }
     ensures { IfOk result (λ made. map (λ end. place_of T.connections G.shared end.begun) made.1.items
-        ≡ places_of (map T.connections turns.items) gates.items) }
+        ≡ places_of turns.items gates.items) }
 {
     let mut tasks = Vec::with_capacity(alloc, gates.len())?;
     let mut ends = Vec::with_capacity(alloc, gates.len())?;
@@ -112,8 +112,7 @@ where
 }
 
 /// Serves the clients of a store until all are done, by the threads of `runner`. The first turn goes with the first gate, and so on: these
-/// are a client, and the line's number is its place. A turn without a gate is dropped, and so is a gate without a turn. No connection of a
-/// turn is out.
+/// are a client, and the line's number is its place. A turn without a gate is dropped, and so is a gate without a turn.
 ///
 /// A client's connections are served one after the other. They are numbered from 1 on; a number that is `u64::MAX` stays. Each is given back
 /// to the turn, with how it ended, once the gate is handed on ([`LineGate::hand_on`]). When the turn has no more, the gate is closed. The
@@ -145,7 +144,7 @@ pub fn run_places<
 >(
     rt: H,
     alloc: Global,
-    turns: Vec<T>,
+    turns: Vec<FreeTurn<T>>,
     gates: Vec<FreeGate<G>>,
     runner: Runner<W>,
 ) -> Result<PlacesEnd<G::Name, G::End, T>, StoreFault>
@@ -155,8 +154,7 @@ where
     T::Time: Send + 'static,
     G::Name: Send + Sync + 'static,
     G::End: Send + 'static,
-    requires { All (λ turn. IsOut None (T.connections turn).out) turns.items }
-    ensures { IfOk result (λ end. AllZip (IsPlaceServed G.Name.limit) (places_of (map T.connections turns.items) gates.items)
+    ensures { IfOk result (λ end. AllZip (IsPlaceServed G.Name.limit) (places_of turns.items gates.items)
         (map (λ end. left_at (T.connections end.turn) end.told (G.closed end.line)) end.ends.items)) }
 {
     let (tasks, comings) = make_tasks(alloc, turns, gates)?;

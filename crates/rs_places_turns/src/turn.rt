@@ -10,6 +10,7 @@ use crate::ended::EndedConnection;
 use rs_server::Clock;
 use rs_version::{StoreName, Told};
 use std::io::{Read, Write};
+use std::marker::Model;
 
 /// A connection: what its client sends, what it is sent, and its clock.
 #[derive(Drop)]
@@ -71,6 +72,41 @@ pub trait Turn {
             (ending_of (Self.In.remaining (inner_of ended.connection.input)) (Self.Out.contents (inner_of ended.connection.output))
             (Self.Time.moments ended.connection.clock) (failures_of ended.connection.input) (failures_of ended.connection.output) ended.served)
             (connections self.new) };
+}
+
+/// A turn of which no connection is out: a new one, or one that took its last connection back.
+#[derive(Drop)]
+pub struct FreeTurn<T: Turn> {
+    turn: T,
+}
+
+impl<T: Turn> Model for FreeTurn<T> {
+    ghost use Rattle.std.specs.Prelude.{None};
+    ghost use Rattle.rs_places_turns.specs.Turns.{Connections, IsOut};
+
+    ghost Value = { Connections };
+
+    ghost view = { λ free. T.connections free.turn };
+
+    ghost invariant = { λ free. IsOut None (T.connections free.turn).out };
+}
+
+impl<T: Turn> FreeTurn<T> {
+    /// This turn, of which no connection is out.
+    pub fn new(turn: T) -> FreeTurn<T>
+        requires { IsOut None (T.connections turn).out }
+        ensures { result ≡ T.connections turn }
+    {
+        FreeTurn { turn }
+    }
+
+    /// The turn.
+    pub fn into_turn(self) -> T
+        ensures turn { T.connections result ≡ self }
+        ensures out { IsOut None (T.connections result).out }
+    {
+        self.turn
+    }
 }
 
 /// What is left of a place whose connections were served.

@@ -7,6 +7,7 @@ use crate::turn::{ClientWord, ListenTurn};
 use log::Log;
 use rs_message::LineCount;
 use rs_metrics::{Meter, Metrics};
+use rs_places_turns::FreeTurn;
 use rs_tcp_sockets::Listener;
 use std::alloc::{AllocError, Global};
 use std::sync::Arc;
@@ -22,7 +23,7 @@ pub(crate) fn turns<H: Clock + Log + Copy>(
     lines: LineCount,
     word: ClientWord,
     metrics: &Option<Arc<Metrics>>,
-) -> Result<Vec<ListenTurn<H>>, AllocError>
+) -> Result<Vec<FreeTurn<ListenTurn<H>>>, AllocError>
     ensures { IfOk result (λ turns. length turns.items ≡ lines) }
 {
     let full = Arc::new(alloc, full).map_err(|_| AllocError)?;
@@ -32,9 +33,8 @@ pub(crate) fn turns<H: Clock + Log + Copy>(
         let listener = Arc::try_clone(&listener)?;
         let full = Arc::try_clone(&full)?;
         let meter = Meter::new(metrics, before + 1)?;
-        turns
-            .push(ListenTurn::new(rt, alloc, listener, full, word, meter, before + 1))
-            .map_err(|_| AllocError)?;
+        let turn = ListenTurn::new(rt, alloc, listener, full, word, meter, before + 1);
+        turns.push(FreeTurn::new(turn)).map_err(|_| AllocError)?;
     }
     Ok(turns)
 }

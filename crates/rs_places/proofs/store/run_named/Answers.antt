@@ -56,6 +56,3 @@ returns g c =
 
 pub run_places-served-requires-send-G : goal.run_places-served-requires-send-G
 run_places-served-requires-send-G g c κs within = param_send 1 _ (arg_send _ no _ (gate_send (param 0 g.row.N) (copied 2 g.row.H) g.N.LineName g.N.StoreName c.type_bounds.send-H))
-
-pub run_places-served-requires : goal.run_places-served-requires
-run_places-served-requires g c = c.requires.free
