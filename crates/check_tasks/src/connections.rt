@@ -8,7 +8,7 @@ use crate::groups::blanks;
 use kit_test::{CONNACK, CONNECT, Failure, check, concat, is_concat};
 use rs_places::run_store;
 use rs_places_pool::{NoWatch, Runner};
-use rs_places_turns::{Connection, EndedConnection, Turn};
+use rs_places_turns::{Connection, EndedConnection, FreeTurn, Turn};
 use rs_server::{Clock, Moments, ServeFault, Served, Tally};
 use rs_version::{StoreName, Told};
 use std::alloc::{AllocError, Global};

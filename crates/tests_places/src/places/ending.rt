@@ -1,11 +1,10 @@
 //! A queue that ends: each change is refused then, and filters are still answered.
 
-ghost use Rattle.std.specs.Prelude.{◌≡◌, All, None};
-ghost use Rattle.rs_places_turns.specs.Turns.{IsOut};
+ghost use Rattle.std.specs.Prelude.{◌≡◌};
 
 use kit_places::{
-    CLOSED, Counts, PUBLISHES, SUBSCRIBES, Script, comes, ending, later, plain_row, put_rows,
-    scripts,
+    CLOSED, Counts, PUBLISHES, SUBSCRIBES, Script, comes, ending, free_scripts, later, plain_row,
+    put_rows, scripts,
 };
 use kit_test::{SUBSCRIBED, blank_store};
 use rs_intake::{BlankQueue, Queue, blank_queue};
@@ -14,7 +13,7 @@ use rs_message::{LineCount, PlaceCount};
 use rs_places::open_gates;
 use rs_places_pool::{NoWatch, Runner};
 use rs_places_steps::run_places;
-use rs_places_turns::{PlaceEnd, Turn};
+use rs_places_turns::{FreeTurn, PlaceEnd, Turn};
 use rs_server::Served;
 use rs_version::{Blank, VersionWriter};
 use std::alloc::Global;
@@ -69,7 +68,7 @@ fn cut_off_named<
     alloc: Global,
     blank: Blank,
     queue: BlankQueue,
-    turns: Vec<T>,
+    turns: Vec<FreeTurn<T>>,
     counts: Arc<Counts>,
 ) -> Result<Cut, Fail>
 where
@@ -78,7 +77,6 @@ where
     T::Time: Send + 'static,
     requires store { (blank.history ≡ N.history) × (blank.limit ≡ N.limit) }
     requires queue { (queue.name ≡ N.queue) × (queue.places ≡ N.places) }
-    requires free { All (λ turn. IsOut None (T.connections turn).out) turns.items }
 {
     let (writer, seats) = blank.open::<N, R>(rt)?;
     let (intake, lines, queue) = queue.open::<N>()?;
@@ -94,14 +92,13 @@ where
 fn cut_off<R: Threads + Wait + Copy + Send + Sync + 'static, T: Turn + Send + Drop + 'static>(
     rt: R,
     alloc: Global,
-    turns: Vec<T>,
+    turns: Vec<FreeTurn<T>>,
     counts: Arc<Counts>,
 ) -> Result<Cut, Fail>
 where
     T::In: Send + 'static,
     T::Out: Send + 'static,
     T::Time: Send + 'static,
-    requires { All (λ turn. IsOut None (T.connections turn).out) turns.items }
 {
     let places = PlaceCount::new(64).ok_or("64 places")?;
     let blank = blank_store(alloc, 10, places)?;
@@ -140,6 +137,7 @@ fn each_place_is_answered_if_the_queue_ends(rt: HostRuntime) -> Result<(), Fail>
     let counts = Arc::new(alloc, Counts::new())?;
     let mut turns = scripts(alloc, &counts, EARLY + 1)?;
     put_exchanges(alloc, turns.as_mut_slice())?;
+    let turns = free_scripts(alloc, turns)?;
     let cut = cut_off(rt, alloc, turns, Arc::try_clone(&counts)?)?;
     let right = counts.right.load(Ordering::SeqCst);
     let closed = counts.closed.load(Ordering::SeqCst);

@@ -1,9 +1,10 @@
 //! A run over turns whose connections are known.
 
-ghost use Rattle.std.specs.Prelude.{◌≡◌, All, IfOk, None, is_some, length, map, true};
+ghost use Rattle.std.specs.Prelude.{◌≡◌, IfOk, is_some, length, map, true};
+ghost use Rattle.std.specs.List.{AllByRecursion};
 ghost use Rattle.rs_server.specs.Counts.{failures_of, inner_of};
 ghost use Rattle.rs_places_turns.specs.Ended.{ending_of};
-ghost use Rattle.rs_places_turns.specs.Turns.{IsOut, TakesBack};
+ghost use Rattle.rs_places_turns.specs.Turns.{TakesBack};
 ghost use Rattle.tests_places.specs.Answered.{AreAnswered};
 
 use kit_places::{NONE, PUBLISHES, SUBSCRIBES};
@@ -12,7 +13,7 @@ use rs_intake::{BlankQueue, blank_queue};
 use rs_message::{LineCount, PlaceCount};
 use rs_places::{StoreEnd, run_store};
 use rs_places_pool::{NoWatch, Runner};
-use rs_places_turns::{Connection, EndedConnection, StoreFault, Turn};
+use rs_places_turns::{Connection, EndedConnection, FreeTurn, StoreFault, Turn};
 use rs_server::{Clock, Moments, Refusals, ServeFault, Served};
 use rs_version::{Blank, StoreName, Told};
 use std::alloc::{AllocError, Global};
@@ -133,16 +134,15 @@ fn answered<T: Turn + Send + Drop + 'static, H: Threads + Wait + Copy + Send + S
     alloc: Global,
     blank: Blank,
     queue: BlankQueue,
-    turns: Vec<T>,
+    turns: Vec<FreeTurn<T>>,
 ) -> Result<StoreEnd<T>, StoreFault>
 where
     T::In: Send + 'static,
     T::Out: Send + 'static,
     T::Time: Send + 'static,
     requires turns { queue.places ≡ length turns.items }
-    requires free { All (λ turn. IsOut None (T.connections turn).out) turns.items }
-    requires known { All (λ turn. is_some (T.connections turn).waiting ≡ true) turns.items }
-    ensures { IfOk result (λ end. AreAnswered blank.limit (map T.connections turns.items) (map T.connections end.turns.items) end.version) }
+    requires known { AllByRecursion (λ connections. is_some connections.waiting ≡ true) turns.items }
+    ensures { IfOk result (λ end. AreAnswered blank.limit turns.items (map T.connections end.turns.items) end.version) }
 {
     run_store(rt, alloc, blank, queue, turns, Runner::<NoWatch>::OneEach)
 }
@@ -159,14 +159,14 @@ fn played(alloc: Global, input: &[u8]) -> Result<Played, AllocError> {
 }
 
 /// A place with these connections.
-fn place_of(alloc: Global, waiting: Vec<Played>) -> Listed
-    ensures { result.out.value ≡ None }
+fn place_of(alloc: Global, waiting: Vec<Played>) -> FreeTurn<Listed>
+    ensures { is_some result.waiting ≡ true }
 {
-    Listed {
+    FreeTurn::new(Listed {
         waiting: VecDeque::from_vec(waiting),
         out: Snapshot::of(&None),
         ended: Some(Vec::new(alloc)),
-    }
+    })
 }
 
 /// Whether the client ended each connection, and was written this behind its CONNACK.
@@ -195,9 +195,9 @@ fn is_closed(outcome: &Outcome) -> bool {
 }
 
 /// A place that publishes and then reads it back, and one whose client reads what it can.
-fn known_turns(alloc: Global) -> Result<Vec<Listed>, AllocError>
+fn known_turns(alloc: Global) -> Result<Vec<FreeTurn<Listed>>, AllocError>
     ensures count { IfOk result (λ turns. length turns.items ≡ 2) }
-    ensures free { IfOk result (λ turns. All (λ turn. turn.out.value ≡ None) turns.items) }
+    ensures known { IfOk result (λ turns. AllByRecursion (λ connections. is_some connections.waiting ≡ true) turns.items) }
 {
     let publishes = played(alloc, PUBLISHES)?;
     let reads = played(alloc, SUBSCRIBES)?;
@@ -240,9 +240,9 @@ const FILLS: &[u8] = b"\x31\x07\x00\x03a/b\x00x\x31\x07\x00\x03a/c\x00x\x31\x07\
 \x33\x09\x00\x03a/e\x00\x01\x00x\x31\x07\x00\x03a/b\x00x\xE0\x00";
 
 /// A place whose first client sends this, and whose next one reads.
-fn filling_turn(alloc: Global) -> Result<Vec<Listed>, AllocError>
+fn filling_turn(alloc: Global) -> Result<Vec<FreeTurn<Listed>>, AllocError>
     ensures count { IfOk result (λ turns. length turns.items ≡ 1) }
-    ensures free { IfOk result (λ turns. All (λ turn. turn.out.value ≡ None) turns.items) }
+    ensures known { IfOk result (λ turns. AllByRecursion (λ connections. is_some connections.waiting ≡ true) turns.items) }
 {
     let sent = concat(alloc, &[CONNECT, FILLS])?;
     let fills = played(alloc, sent.as_slice())?;
