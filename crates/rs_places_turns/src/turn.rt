@@ -3,7 +3,7 @@
 ghost use Rattle.std.specs.Option.{option_map};
 ghost use Rattle.rs_server.specs.Counts.{failures_of, inner_of};
 ghost use Rattle.rs_places_turns.specs.Ended.{HasEnded, ending_of};
-ghost use Rattle.std.specs.Prelude.{None};
+ghost use Rattle.std.specs.Prelude.{◌≡◌, None};
 ghost use Rattle.rs_places_turns.specs.Turns.{GivesNext, IsOut, TakesBack};
 
 use crate::ended::EndedConnection;
