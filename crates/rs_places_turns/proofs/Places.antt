@@ -12,16 +12,17 @@ pub same_place : {T G : Type 0} (connections : T → Connections) (shared : G �
 same_place {T} {G} connections shared t u g h e f = ap (λ (t : T). place_at (connections t) (shared g)) e ∙ ap (λ (v : G). place_at (connections u) (shared v)) f
 
 -- the first turn that is left goes with the first gate that is left
-pub next_place : (turns turns_left : List Connections) (gates gates_left : List SharedValue) (turn : Connections) (gate : SharedValue)
-    → turns ≡ turn ∷ turns_left → gates ≡ gate ∷ gates_left → places_of turns gates ≡ place_at turn gate ∷ places_of turns_left gates_left
-next_place turns turns_left gates gates_left turn gate t g =
-    ap (λ (l : List Connections). places_of l gates) t ∙ ap (λ (l : List SharedValue). places_of (turn ∷ turns_left) l) g
+pub next_place : {T : Type 0} (connections : T → Connections) (turns turns_left : List T) (gates gates_left : List SharedValue) (turn : T) (gate : SharedValue)
+    → turns ≡ turn ∷ turns_left → gates ≡ gate ∷ gates_left
+    → places_of (map connections turns) gates ≡ place_at (connections turn) gate ∷ places_of (map connections turns_left) gates_left
+next_place {T} connections turns turns_left gates gates_left turn gate t g =
+    ap (λ (l : List T). places_of (map connections l) gates) t ∙ ap (λ (l : List SharedValue). places_of (connections turn ∷ map connections turns_left) l) g
 
 -- there is no turn or no gate for another place
-pub no_places : (turns : List Connections) (gates : List SharedValue) → (length turns ≡ 0) ⊎ (length gates ≡ 0) → places_of turns gates ≡ []
-no_places [] gates none = refl
-no_places (turn ∷ turns) [] none = refl
-no_places (turn ∷ turns) (gate ∷ gates) none = ⊎_elim (λ t. absurd (omega (arith, t))) (λ t. absurd (omega (arith, t))) none
+pub no_places : {T : Type 0} (connections : T → Connections) (turns : List T) (gates : List SharedValue) → (length turns ≡ 0) ⊎ (length gates ≡ 0) → places_of (map connections turns) gates ≡ []
+no_places connections [] gates none = refl
+no_places connections (turn ∷ turns) [] none = refl
+no_places connections (turn ∷ turns) (gate ∷ gates) none = ⊎_elim (λ t. absurd (omega (arith, t))) (λ t. absurd (omega (arith, t))) none
 
 pub places_length : (turns : List Connections) (gates : List SharedValue) → length turns ≡ length gates → length (places_of turns gates) ≡ length gates
 places_length [] [] same = refl

@@ -10,7 +10,6 @@ use crate::ended::EndedConnection;
 use rs_server::Clock;
 use rs_version::{StoreName, Told};
 use std::io::{Read, Write};
-use std::marker::Model;
 
 /// A connection: what its client sends, what it is sent, and its clock.
 #[derive(Drop)]
@@ -77,35 +76,18 @@ pub trait Turn {
 /// A turn of which no connection is out: a new one, or one that took its last connection back.
 #[derive(Drop)]
 pub struct FreeTurn<T: Turn> {
-    turn: T,
-}
-
-impl<T: Turn> Model for FreeTurn<T> {
-    ghost use Rattle.std.specs.Prelude.{None};
-    ghost use Rattle.rs_places_turns.specs.Turns.{Connections, IsOut};
-
-    ghost Value = { Connections };
-
-    ghost view = { λ free. T.connections free.turn };
-
-    ghost invariant = { λ free. IsOut None (T.connections free.turn).out };
+    /// The turn.
+    pub turn: T,
+    pub ghost free: { IsOut None (T.connections turn).out },
 }
 
 impl<T: Turn> FreeTurn<T> {
     /// This turn, of which no connection is out.
     pub fn new(turn: T) -> FreeTurn<T>
         requires { IsOut None (T.connections turn).out }
-        ensures { result ≡ T.connections turn }
+        ensures { result.turn ≡ turn }
     {
         FreeTurn { turn }
-    }
-
-    /// The turn.
-    pub fn into_turn(self) -> T
-        ensures turn { T.connections result ≡ self }
-        ensures out { IsOut None (T.connections result).out }
-    {
-        self.turn
     }
 }
 

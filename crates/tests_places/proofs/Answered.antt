@@ -1,5 +1,5 @@
 -- From the contract of a run to what the clients were written.
-use Rattle.std.proofs.Common.{◌≡◌, ℕ, Option, Some, None, is_some, true, List, [], ◌∷◌, ◌++◌, length, map, sym, subst, ◌∙◌, arith}
+use Rattle.std.proofs.Common.{◌≡◌, ℕ, suc, Option, Some, None, is_some, true, All, List, [], ◌∷◌, ◌++◌, length, map, sym, subst, ◌∙◌, arith}
 use Rattle.std.specs.Prelude.{IfOk, Result, Ok, Err}
 use Rattle.std.specs.List.{AllByRecursion, AllZip}
 use Rattle.rs_session.specs.Gate.{Extends}
@@ -88,3 +88,8 @@ run_answered limit places before after version changes cause count known run =
 pub if_ok_more : {A E : Type 0} (r : Result A E) (P Q : A → Type 0) → ((x : A) → P x → Q x) → IfOk r P → IfOk r Q
 if_ok_more (Ok x) P Q to h = to x h
 if_ok_more (Err e) P Q to h = tt
+
+-- what is given of each turn is given of its connections
+pub connections_known : {T : Type 0} (connections : T → Connections) (turns : List T) → All (λ turn. is_some (connections turn).waiting ≡ true) turns → AllByRecursion (λ p. is_some p.waiting ≡ true) (map connections turns)
+connections_known connections [] known = tt
+connections_known connections (turn ∷ turns) known = (known 0 turn (omega arith), connections_known connections turns (λ k d lt. known (suc k) d (omega (arith, lt))))

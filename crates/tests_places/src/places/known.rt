@@ -1,7 +1,6 @@
 //! A run over turns whose connections are known.
 
-ghost use Rattle.std.specs.Prelude.{◌≡◌, IfOk, is_some, length, map, true};
-ghost use Rattle.std.specs.List.{AllByRecursion};
+ghost use Rattle.std.specs.Prelude.{◌≡◌, All, IfOk, is_some, length, map, true};
 ghost use Rattle.rs_server.specs.Counts.{failures_of, inner_of};
 ghost use Rattle.rs_places_turns.specs.Ended.{ending_of};
 ghost use Rattle.rs_places_turns.specs.Turns.{TakesBack};
@@ -141,8 +140,8 @@ where
     T::Out: Send + 'static,
     T::Time: Send + 'static,
     requires turns { queue.places ≡ length turns.items }
-    requires known { AllByRecursion (λ connections. is_some connections.waiting ≡ true) turns.items }
-    ensures { IfOk result (λ end. AreAnswered blank.limit turns.items (map T.connections end.turns.items) end.version) }
+    requires known { All (λ free. is_some (T.connections free.turn).waiting ≡ true) turns.items }
+    ensures { IfOk result (λ end. AreAnswered blank.limit (map (λ free. T.connections free.turn) turns.items) (map T.connections end.turns.items) end.version) }
 {
     run_store(rt, alloc, blank, queue, turns, Runner::<NoWatch>::OneEach)
 }
@@ -159,9 +158,7 @@ fn played(alloc: Global, input: &[u8]) -> Result<Played, AllocError> {
 }
 
 /// A place with these connections.
-fn place_of(alloc: Global, waiting: Vec<Played>) -> FreeTurn<Listed>
-    ensures { is_some result.waiting ≡ true }
-{
+fn place_of(alloc: Global, waiting: Vec<Played>) -> FreeTurn<Listed> {
     FreeTurn::new(Listed {
         waiting: VecDeque::from_vec(waiting),
         out: Snapshot::of(&None),
@@ -196,8 +193,7 @@ fn is_closed(outcome: &Outcome) -> bool {
 
 /// A place that publishes and then reads it back, and one whose client reads what it can.
 fn known_turns(alloc: Global) -> Result<Vec<FreeTurn<Listed>>, AllocError>
-    ensures count { IfOk result (λ turns. length turns.items ≡ 2) }
-    ensures known { IfOk result (λ turns. AllByRecursion (λ connections. is_some connections.waiting ≡ true) turns.items) }
+    ensures { IfOk result (λ turns. length turns.items ≡ 2) }
 {
     let publishes = played(alloc, PUBLISHES)?;
     let reads = played(alloc, SUBSCRIBES)?;
@@ -241,8 +237,7 @@ const FILLS: &[u8] = b"\x31\x07\x00\x03a/b\x00x\x31\x07\x00\x03a/c\x00x\x31\x07\
 
 /// A place whose first client sends this, and whose next one reads.
 fn filling_turn(alloc: Global) -> Result<Vec<FreeTurn<Listed>>, AllocError>
-    ensures count { IfOk result (λ turns. length turns.items ≡ 1) }
-    ensures known { IfOk result (λ turns. AllByRecursion (λ connections. is_some connections.waiting ≡ true) turns.items) }
+    ensures { IfOk result (λ turns. length turns.items ≡ 1) }
 {
     let sent = concat(alloc, &[CONNECT, FILLS])?;
     let fills = played(alloc, sent.as_slice())?;

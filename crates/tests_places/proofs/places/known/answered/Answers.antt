@@ -1,8 +1,9 @@
-use Rattle.std.proofs.Common.{map, sym}
-use Rattle.tests_places.proofs.Answered.{if_ok_more, run_answered}
+use Rattle.std.proofs.Common.{◌∙◌, map, sym}
+use Rattle.std.proofs.lemmas.List.{length-map}
+use Rattle.tests_places.proofs.Answered.{connections_known, if_ok_more, run_answered}
 use Rattle.tests_places.proofs.places.known.answered.Goals as goal
 
 pub returns : goal.returns
 returns g c = if_ok_more c.run_store.result _ _
-    (λ end run. run_answered c.args.blank.limit c.args.queue.places c.args.turns.items (map g.T.Turn.connections end.turns.items) end.version end.changes end.cause (sym c.requires.turns) c.requires.known run)
+    (λ end run. run_answered c.args.blank.limit c.args.queue.places (map (λ free. g.T.Turn.connections free.turn) c.args.turns.items) (map g.T.Turn.connections end.turns.items) end.version end.changes end.cause (length-map c.args.turns.items (λ free. g.T.Turn.connections free.turn) ∙ sym c.requires.turns) (connections_known (λ free. g.T.Turn.connections free.turn) c.args.turns.items c.requires.known) run)
     c.run_store.ensures
