@@ -229,25 +229,26 @@ known_all {A} ys P i few all = let Q : List A → Type 0 = λ l. All P l in subs
 -- ---- the run
 
 -- each place has the end of one line, once the turns were served over new gates
-pub ends_once : {T E : Type 0} (before : List Connections) (ends : List E) (connections : T → Connections) (turn : E → T) (told : E → List Entry) (line : E → Closed) (limit places : ℕ) (gates : List SharedValue)
-    → gates ≡ new_gates places → length before ≡ places → AllZip (IsPlaceServed limit) (places_of before gates) (map (λ e. left_at (connections (turn e)) (told e) (line e)) ends)
+pub ends_once : {T E : Type 0} (turns : List T) (ends : List E) (connections : T → Connections) (turn : E → T) (told : E → List Entry) (line : E → Closed) (limit places : ℕ) (gates : List SharedValue)
+    → gates ≡ new_gates places → length turns ≡ places → AllZip (IsPlaceServed limit) (places_of (map connections turns) gates) (map (λ e. left_at (connections (turn e)) (told e) (line e)) ends)
     → EachOnce places (map line ends)
-ends_once {T} {E} before ends connections turn told line limit places gates new turns_count served =
+ends_once {T} {E} turns ends connections turn told line limit places gates new turns_count served =
     let h : E → Left = λ e. left_at (connections (turn e)) (told e) (line e) in
+    let before = map connections turns in
     let P : List SharedValue → Type 0 = λ l. AllZip (IsPlaceServed limit) (places_of before l) (map h ends) in
     let Q : List Closed → Type 0 = λ l. EachOnce places l in
-    subst Q (map_map (λ (end : Left). end.line) h ends) (each_once limit places before (map h ends) (turns_count ∙ sym (new_lines_length places)) (subst P new served))
+    subst Q (map_map (λ (end : Left). end.line) h ends) (each_once limit places before (map h ends) (length-map turns connections ∙ (turns_count ∙ sym (new_lines_length places))) (subst P new served))
 
 -- a run of a store with a turn for each place
-pub store_run : {T E : Type 0} (before : List Connections) (ends : List E) (connections : T → Connections) (turn : E → T) (told : E → List Entry) (line : E → Closed) (own limit places : ℕ) (turns_left : List T)
+pub store_run : {T E : Type 0} (turns : List T) (ends : List E) (connections : T → Connections) (turn : E → T) (told : E → List Entry) (line : E → Closed) (own limit places : ℕ) (turns_left : List T)
     (gates : List SharedValue) (w : Written) (received : Received) (cause : Cause) (ways : List Told) (version : ℕ) (changes : Option ℕ)
-    → own ≡ limit → gates ≡ new_gates places → length before ≡ places
-    → AllZip (IsPlaceServed limit) (places_of before gates) (map (λ e. left_at (connections (turn e)) (told e) (line e)) ends)
+    → own ≡ limit → gates ≡ new_gates places → length turns ≡ places
+    → AllZip (IsPlaceServed limit) (places_of (map connections turns) gates) (map (λ e. left_at (connections (turn e)) (told e) (line e)) ends)
     → IsWritten limit places received.entries (kept_of w) ways → IsLegal limit (kept_of w) → All (λ e. IsPrefix (told e) (kept_of w)) ends
     → AreTakenInOrder received.entries (map line ends) → MatchOption changes (IsUnsettled received.entries (map line ends)) (IsSettled places received.entries (map line ends))
     → AreOfPlaces places received.entries → IsCause places (2 ^ 64 - 1) received cause → (HaveEnded places received.ends → AreTaken received.entries (map line ends)) → version ≡ length w.published → turns_left ≡ map turn ends
-    → IsStoreRun own places before (map connections turns_left) version changes cause
-store_run {T} {E} before ends connections turn told line own limit places turns_left gates w received cause ways version changes same new turns_count served written legal known taken settled placed ended all_ended version_is left_is =
+    → IsStoreRun own places (map connections turns) (map connections turns_left) version changes cause
+store_run {T} {E} turns ends connections turn told line own limit places turns_left gates w received cause ways version changes same new turns_count served written legal known taken settled placed ended all_ended version_is left_is =
     let history = kept_of w in
     let entries = received.entries in
     let kept = written_part limit places entries history ways written in
@@ -260,9 +261,10 @@ store_run {T} {E} before ends connections turn told line own limit places turns_
     let C : Closed → Type 0 = λ e. IsPrefix (of_place e.place entries) e.sent in
     let both : AllByRecursion (IsKnown history entries) left =
     all_both line K C h (IsKnown history entries) (λ e k c. ((k.0, sym k.1), (c.0, sym c.1))) ends (recursion_from_All K ends known) (recursion_from_All C (map line ends) taken) in
+    let before = map connections turns in
     let P : List SharedValue → Type 0 = λ l. AllZip (IsPlaceServed limit) (places_of before l) left in
     let gates_count : length gates ≡ places = ap length new ∙ new_gates_length places in
-    let all = places_length before gates (turns_count ∙ sym gates_count) in
+    let all = places_length before gates (length-map turns connections ∙ (turns_count ∙ sym gates_count)) in
     let each = each_length (IsPlaceServed limit) (places_of before gates) left served in
     let S : List Closed → Type 0 = λ l. MatchOption changes (IsUnsettled entries l) (IsSettled places entries l) in
     let T : List Closed → Type 0 = λ l. IsEndOfRun entries l cause in

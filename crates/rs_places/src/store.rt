@@ -171,7 +171,7 @@ where
     T::Out: Send + 'static,
     T::Time: Send + 'static,
     requires { queue.places ≡ length turns.items }
-    ensures { IfOk result (λ end. IsStoreRun blank.limit queue.places (map (λ free. T.connections free.turn) turns.items) (map T.connections end.turns.items)
+    ensures { IfOk result (λ end. IsStoreRun blank.limit queue.places (map T.connections turns.items) (map T.connections end.turns.items)
         end.version end.changes end.cause) }
 {
     run_named::<Brand, T, H, W>(rt, alloc, blank, queue, turns, runner)
@@ -197,7 +197,7 @@ where
     requires store { (blank.history ≡ N.history) × (blank.limit ≡ N.limit) }
     requires queue { (queue.name ≡ N.queue) × (queue.places ≡ N.places) }
     requires turns { queue.places ≡ length turns.items }
-    ensures { IfOk result (λ end. IsStoreRun blank.limit queue.places (map (λ free. T.connections free.turn) turns.items) (map T.connections end.turns.items)
+    ensures { IfOk result (λ end. IsStoreRun blank.limit queue.places (map T.connections turns.items) (map T.connections end.turns.items)
         end.version end.changes end.cause) }
 {
     let (writer, seats) = blank.open::<N, H>(rt)?;

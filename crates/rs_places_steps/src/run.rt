@@ -26,9 +26,9 @@ fn make_task<T: Turn + Drop, G: LineGate + Drop>(
     turn: FreeTurn<T>,
     gate: FreeGate<G>,
 ) -> Result<(Task<T, G>, ClientEnd<T, G>), AllocError>
-    ensures { IfOk result (λ made. place_of T.connections G.shared made.1.begun ≡ place_at (T.connections turn.turn) gate) }
+    ensures { IfOk result (λ made. place_of T.connections G.shared made.1.begun ≡ place_at (T.connections turn) gate) }
 {
-    let FreeTurn { turn } = turn;
+    let turn = turn.into_turn();
     let gate = gate.into_gate();
     let (end, taken) = client_ends(alloc, &turn, &gate)?;
     Ok((Task::new(FreeClient::new(turn, gate), end), taken))
@@ -41,7 +41,7 @@ fn make_tasks<T: Turn + Drop, G: LineGate + Drop>(
     gates: Vec<FreeGate<G>>,
 ) -> Result<(Vec<Task<T, G>>, Vec<ClientEnd<T, G>>), AllocError>
     ensures { IfOk result (λ made. map (λ end. place_of T.connections G.shared end.begun) made.1.items
-        ≡ places_of (map (λ free. T.connections free.turn) turns.items) gates.items) }
+        ≡ places_of (map T.connections turns.items) gates.items) }
 {
     let mut tasks = Vec::with_capacity(alloc, gates.len())?;
     let mut ends = Vec::with_capacity(alloc, gates.len())?;
@@ -154,7 +154,7 @@ where
     T::Time: Send + 'static,
     G::Name: Send + Sync + 'static,
     G::End: Send + 'static,
-    ensures { IfOk result (λ end. AllZip (IsPlaceServed G.Name.limit) (places_of (map (λ free. T.connections free.turn) turns.items) gates.items)
+    ensures { IfOk result (λ end. AllZip (IsPlaceServed G.Name.limit) (places_of (map T.connections turns.items) gates.items)
         (map (λ end. left_at (T.connections end.turn) end.told (G.closed end.line)) end.ends.items)) }
 {
     let (tasks, comings) = make_tasks(alloc, turns, gates)?;

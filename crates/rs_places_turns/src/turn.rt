@@ -10,6 +10,7 @@ use crate::ended::EndedConnection;
 use rs_server::Clock;
 use rs_version::{StoreName, Told};
 use std::io::{Read, Write};
+use std::marker::Model;
 
 /// A connection: what its client sends, what it is sent, and its clock.
 #[derive(Drop)]
@@ -76,18 +77,35 @@ pub trait Turn {
 /// A turn of which no connection is out: a new one, or one that took its last connection back.
 #[derive(Drop)]
 pub struct FreeTurn<T: Turn> {
-    /// The turn.
-    pub turn: T,
-    pub ghost free: { IsOut None (T.connections turn).out },
+    turn: T,
+}
+
+impl<T: Turn> Model for FreeTurn<T> {
+    ghost use Rattle.std.specs.Prelude.{None};
+    ghost use Rattle.rs_places_turns.specs.Turns.{IsOut};
+
+    ghost Value = { T };
+
+    ghost view = { λ free. free.turn };
+
+    ghost invariant = { λ free. IsOut None (T.connections free.turn).out };
 }
 
 impl<T: Turn> FreeTurn<T> {
     /// This turn, of which no connection is out.
     pub fn new(turn: T) -> FreeTurn<T>
         requires { IsOut None (T.connections turn).out }
-        ensures { result.turn ≡ turn }
+        ensures { result ≡ turn }
     {
         FreeTurn { turn }
+    }
+
+    /// The turn.
+    pub fn into_turn(self) -> T
+        ensures turn { result ≡ self }
+        ensures free { IsOut None (T.connections result).out }
+    {
+        self.turn
     }
 }
 

@@ -140,8 +140,8 @@ where
     T::Out: Send + 'static,
     T::Time: Send + 'static,
     requires turns { queue.places ≡ length turns.items }
-    requires known { All (λ free. is_some (T.connections free.turn).waiting ≡ true) turns.items }
-    ensures { IfOk result (λ end. AreAnswered blank.limit (map (λ free. T.connections free.turn) turns.items) (map T.connections end.turns.items) end.version) }
+    requires known { All (λ turn. is_some (T.connections turn).waiting ≡ true) turns.items }
+    ensures { IfOk result (λ end. AreAnswered blank.limit (map T.connections turns.items) (map T.connections end.turns.items) end.version) }
 {
     run_store(rt, alloc, blank, queue, turns, Runner::<NoWatch>::OneEach)
 }

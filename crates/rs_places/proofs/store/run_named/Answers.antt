@@ -3,7 +3,6 @@ use denote.Param.Send.{arg_send, param_send}
 use denote.Param.{copied, param}
 use Rattle.std.proofs.Common.{◌≡◌, ◌≤◌, ℕ, ◌-◌, ◌^◌, List, [], length, map, sym, ap, subst, ◌∙◌, arith}
 use Rattle.std.specs.Prelude.{MatchOption}
-use Rattle.std.proofs.lemmas.List.{length-map}
 use Rattle.rs_intake_line.specs.Done.{IsWritten}
 use Rattle.rs_intake_line.specs.Lines.{Line}
 use Rattle.rs_intake_queue.specs.Ends.{Closed}
@@ -32,8 +31,8 @@ settle_run-requires-clause-once g c =
     let new : gates ≡ new_gates c.args.queue.places =
     c.in_ok-gates.ensures.same [] c.in_ok-writer.ensures.seats.1 ∙ ap (map (λ (line : Line). handed_on [] line)) c.in_ok-intake.ensures in
     let P : ℕ → Type 0 = λ n. EachOnce n (map (λ end. end.line) ends) in
-    subst P c.requires.queue.1 (ends_once (map (λ free. g.T.Turn.connections free.turn) c.args.turns.items) ends g.T.Turn.connections (λ end. end.turn) (λ end. end.told) (λ end. end.line) g.N.StoreName.limit c.args.queue.places _ new
-    (length-map c.args.turns.items (λ free. g.T.Turn.connections free.turn) ∙ sym c.requires.turns) c.in_ok-served.ensures)
+    subst P c.requires.queue.1 (ends_once c.args.turns.items ends g.T.Turn.connections (λ end. end.turn) (λ end. end.told) (λ end. end.line) g.N.StoreName.limit c.args.queue.places _ new
+    (sym c.requires.turns) c.in_ok-served.ensures)
 
 pub returns : goal.returns
 returns g c =
@@ -51,9 +50,8 @@ returns g c =
     let cause = subst (λ (k : Cause). IsCause c.args.queue.places (2 ^ 64 - 1) ended.received k) (sym c.settle_run.ensures.cause) of_writer in
     let all_ended = subst (λ (n : ℕ). HaveEnded n ended.received.ends → AreTaken entries lines) same c.settle_run.ensures.ended in
     let so = subst (λ (n : ℕ). MatchOption c.settle_run.result.changes (IsUnsettled entries lines) (IsSettled n entries lines)) same c.settle_run.ensures.settled in
-    store_run (map (λ free. g.T.Turn.connections free.turn) c.args.turns.items) ends g.T.Turn.connections (λ end. end.turn) (λ end. end.told) (λ end. end.line) c.args.blank.limit g.N.StoreName.limit c.args.queue.places
-    c.settle_run.result.turns.items _ ended.writer ended.received c.settle_run.result.cause ended.ways.items c.settle_run.result.version c.settle_run.result.changes c.requires.store.1 new
-    (length-map c.args.turns.items (λ free. g.T.Turn.connections free.turn) ∙ sym c.requires.turns)
+    store_run c.args.turns.items ends g.T.Turn.connections (λ end. end.turn) (λ end. end.told) (λ end. end.line) c.args.blank.limit g.N.StoreName.limit c.args.queue.places
+    c.settle_run.result.turns.items _ ended.writer ended.received c.settle_run.result.cause ended.ways.items c.settle_run.result.version c.settle_run.result.changes c.requires.store.1 new (sym c.requires.turns)
     c.in_ok-served.ensures written c.settle_run.ensures.legal c.settle_run.ensures.known c.settle_run.ensures.order so placed cause all_ended c.settle_run.ensures.version c.settle_run.ensures.turns
 
 pub run_places-served-requires-send-G : goal.run_places-served-requires-send-G

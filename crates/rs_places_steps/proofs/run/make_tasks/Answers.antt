@@ -8,8 +8,9 @@ pub loop-turn-preserved : goal.loop-turn-preserved
 loop-turn-preserved g c =
     let i = c.loop-turn.invariant in
     let steps = c.in-Some.ensures.steps in
+    let first = next_place g.T.Turn.connections _ _ _ _ _ _ steps.0.0 steps.1.0 in
     record {
-      made = made_more _ _ _ _ _ _ _ _ c.push_reserved-in-loop-turn.ensures.items c.in_ok-task.ensures (next_place (λ free. g.T.Turn.connections free.turn) _ _ _ _ _ _ steps.0.0 steps.1.0) i.made;
+      made = made_more _ _ _ _ _ _ _ _ c.push_reserved-in-loop-turn.ensures.items c.in_ok-task.ensures first i.made;
       fits = omega (arith, i.fits, length_more _ _ _ c.push_reserved.ensures.items, c.push_reserved.ensures.capacity, ap length steps.1.0);
       fits_too = omega (arith, i.fits_too, length_more _ _ _ c.push_reserved-in-loop-turn.ensures.items, c.push_reserved-in-loop-turn.ensures.capacity, ap length steps.1.0);
     }
@@ -19,4 +20,4 @@ returns g c =
     let iterator = c.loop-turn.turn-iterator in
     let none : (length iterator.a.rest.items ≡ 0) ⊎ (length iterator.b.rest.items ≡ 0) =
     ⊎_elim (λ t. inl (sym iterator.a.rest.ok.0 ∙ t.1.0)) (λ t. inr (sym iterator.b.rest.ok.0 ∙ t.1.0)) c.in-None.ensures.steps in
-    made_all _ _ _ _ c.loop-turn.invariant.made (no_places (λ free. g.T.Turn.connections free.turn) _ _ none)
+    made_all _ _ _ _ c.loop-turn.invariant.made (no_places g.T.Turn.connections _ _ none)
