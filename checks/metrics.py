@@ -172,8 +172,8 @@ def each_number():
 
 
 def taken(number, payload, qos, expiry=None):
-    """A retained PUBLISH for a topic, and what it is answered if it is taken. Behind one that is not
-    answered comes a PINGREQ."""
+    """A retained PUBLISH for a topic, and what it is answered if it is taken. Behind one that is
+    not answered comes a PINGREQ."""
     sent = packets.publish(topic(number), payload, qos, expiry=expiry)
     more = (PINGREQ, b"", pubrel(1))[qos]
     return sent + more, (PINGRESP, PUBACK, PUBREC + PUBCOMP)[qos]
