@@ -172,8 +172,8 @@ def each_number():
 
 
 def taken(number, payload, qos, expiry=None):
-    """A retained PUBLISH for a topic, and what it is answered if it is taken. Behind one that is not
-    answered comes a PINGREQ."""
+    """A retained PUBLISH for a topic, and what it is answered if it is taken. Behind one that is
+    not answered comes a PINGREQ."""
     sent = packets.publish(topic(number), payload, qos, expiry=expiry)
     more = (PINGREQ, b"", pubrel(1))[qos]
     return sent + more, (PINGRESP, PUBACK, PUBREC + PUBCOMP)[qos]
@@ -393,14 +393,16 @@ def slow_and_endless():
         wanted(took > LONGEST, f"the next one of {TOGETHER} requests waited for {took} seconds")
         for asked in silent:
             wanted(read_all(asked) == b"", "a request without an end is answered")
-        for request, part, answer in (
-            (GET[:-2], b"a", b""),
-            (GET[:-2] + b"a: ", 4_096 * b"a", b"431"),
-            (b"GET /", 4_096 * b"a", b"414"),
-            (GET, 4_096 * b"a", b"200"),
-            (GET, b"a", b"200"),
-        ):
-            goes_on(server, request, part, answer)
+        endless = (
+            (GET[:-2], b"a", None),
+            (GET[:-2] + b"a: ", 4_096 * b"a", 431),
+            (b"GET /", 4_096 * b"a", 414),
+            (GET, 4_096 * b"a", 200),
+            (GET, b"a", 200),
+        )
+        with ThreadPoolExecutor(len(endless)) as threads:
+            for each in [threads.submit(goes_on, server, *given) for given in endless]:
+                each.result()
         for _ in range(10):
             expected.connected()
             expected.moved(PINGREQ + DISCONNECT, PINGRESP)
@@ -420,7 +422,7 @@ def goes_on(server, request, part, answer):
             pass
         data = read_all(asked)
     # A reset may take the answer with it.
-    wanted(not data or split(data)[0] == int(answer or 0), f"an endless request: {data[:99]!r}")
+    wanted(not data or split(data)[0] == answer, f"an endless request is answered {data[:99]!r}")
 
 
 def the_text():

@@ -79,7 +79,7 @@ impl MetricsServer {
     /// # Errors
     ///
     /// Only if memory is refused at the start: then none was answered.
-    pub fn run<H: Clock + Files + AllocGlobal>(
+    pub fn run<H: Clock + Files>(
         self,
         rt: &H,
         metrics: &Metrics,
@@ -149,7 +149,7 @@ fn wait<H: Clock>(rt: &H, asked: &mut [pollfd; DESCRIPTORS]) {
 }
 
 /// Lets each connection go on that was told of.
-fn go_on<H: Files + AllocGlobal, S: Read + Write + OpenStream>(
+fn go_on<H: Files, S: Read + Write + OpenStream>(
     rt: &H,
     metrics: &Metrics,
     connections: &mut [Timed<S>],

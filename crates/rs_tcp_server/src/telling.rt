@@ -48,7 +48,7 @@ pub(crate) fn share(metrics: &Option<Arc<Metrics>>) -> Result<Option<Arc<Metrics
 }
 
 /// Starts the thread that tells the numbers, if there are any.
-pub(crate) fn start_telling<H: Clock + Files + Threads + AllocGlobal + Copy + Send + 'static>(
+pub(crate) fn start_telling<H: Clock + Files + Threads + Copy + Send + 'static>(
     rt: H,
     alloc: Global,
     server: Option<MetricsServer>,

@@ -95,7 +95,7 @@ struct Got {
 }
 
 /// Converses with a client to the end, or for so many steps.
-fn converse<H: Files + AllocGlobal>(
+fn converse<H: Files>(
     rt: &H,
     alloc: Global,
     is_taking: bool,

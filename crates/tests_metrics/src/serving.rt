@@ -29,7 +29,6 @@ fn start<
         + Threads
         + Clock
         + Files
-        + AllocGlobal
         + Copy
         + Send
         + 'static,

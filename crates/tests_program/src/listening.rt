@@ -317,6 +317,26 @@ const HEALTH: &[u8] = b"GET /healthz HTTP/1.1\r\nHost: a\r\n\r\n";
 
 const HEALTHY: &[u8] = b"HTTP/1.1 200 OK\r\n";
 
+/// How often its health is asked for, with a pause of so many milliseconds. Its writer may begin a little later.
+const TRIES: u64 = 1_000;
+
+const PAUSE: u64 = 10;
+
+/// Whether the writer of a server is told to take changes, before long.
+fn is_healthy<H: Clock + Net<Listener = TcpListener, Stream = TcpStream>>(
+    rt: &H,
+    address: &str,
+) -> io::Result<bool> {
+    for _ in 0..TRIES {
+        let mut asking = TcpStream::connect(rt, address)?;
+        if is_answered(&mut asking, &(HEALTH, HEALTHY))? {
+            return Ok(true);
+        }
+        sleep(rt, Duration::from_millis(PAUSE));
+    }
+    Ok(false)
+}
+
 /// Its health is told while it runs. Once its clients have ended, it ends, and nobody is told any more.
 #[test]
 fn a_server_tells_its_health(rt: HostRuntime) -> Result<(), Fail> {
@@ -327,8 +347,7 @@ fn a_server_tells_its_health(rt: HostRuntime) -> Result<(), Fail> {
     let address = server.address()?;
     let told = server.metrics_address()?.ok_or("no address")?;
     let serving = spawn(&rt, move || server.run(rt).ok())?;
-    let mut asking = TcpStream::connect(&rt, told.as_str())?;
-    assert!(rt; is_answered(&mut asking, &(HEALTH, HEALTHY))?);
+    assert!(rt; is_healthy(&rt, told.as_str())?);
     assert!(rt; is_served(&rt, address.as_str(), PUBLISH, PUBACK));
     let summary = Summary {
         threads: 1,

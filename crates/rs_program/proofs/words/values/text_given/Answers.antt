@@ -6,5 +6,5 @@ use Rattle.rs_program.proofs.words.values.text_given.Goals as goal
 pub returns-in-None : goal.returns-in-None
 returns-in-None c = sym (first_value-rows (found_of c.args.found.now) c.args.option.now) ∙ sym c.in-None.ensures
 
-pub returns-in-Some-Ok : goal.returns-in-Some-Ok
-returns-in-Some-Ok c = sym (c.in-Some.ensures ∙ first_value-rows (found_of c.args.found.now) c.args.option.now) ∙ ap Some (sym c.in-Some-Ok.ensures.ok)
+pub returns-in-Ok : goal.returns-in-Ok
+returns-in-Ok c = sym (c.in-Some.ensures ∙ first_value-rows (found_of c.args.found.now) c.args.option.now) ∙ ap Some (sym c.in-Ok.ensures.ok)
