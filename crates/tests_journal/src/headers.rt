@@ -14,7 +14,7 @@ const BOTH: [Step; 6] = [
     Step::Push(3),
     Step::Commit,
     Step::Push(4),
-    Step::Push(15),
+    Step::Push(32),
     Step::Commit,
 ];
 
@@ -26,7 +26,7 @@ fn commits_of(alloc: Global, found: &[u8]) -> Result<Option<u8>, Fail> {
     if found == records_of(alloc, &[2, 3])?.as_slice() {
         return Ok(Some(1));
     }
-    if found == records_of(alloc, &[2, 3, 4, 15])?.as_slice() {
+    if found == records_of(alloc, &[2, 3, 4, 32])?.as_slice() {
         return Ok(Some(2));
     }
     Ok(None)
