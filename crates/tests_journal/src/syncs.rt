@@ -74,5 +74,8 @@ fn a_log_is_long_after_some_thousand_pages(rt: HostRuntime) -> Result<(), Fail> 
     assert!(rt; journal.page_count() > 4000);
     assert!(rt; journal.commit().is_ok());
     assert!(rt; journal.is_log_long());
+
+    // No commit copies the log by itself.
+    assert!(rt; journal.close().db.inner.bytes().len() < 100_000);
     Ok(())
 }

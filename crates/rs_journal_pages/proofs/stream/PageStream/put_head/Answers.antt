@@ -4,7 +4,7 @@ use Rattle.rs_journal_pages.proofs.StandsLemmas.{closed_same, goes_on_same, hold
 use Rattle.rs_journal_pages.proofs.stream.PageStream.put_head.Goals as goal
 
 pub put_page-requires : goal.put_page-requires
-put_page-requires g c = ap length (c.deref.ensures.value ∙ c.in_ok-form_head.ensures.form) ∙ head_long c.in-Some.first ∙ sym c.args.self.now.sized
+put_page-requires g c = ap length (c.deref.ensures.value ∙ c.in_ok-form_head.ensures.form) ∙ head_long _ ∙ sym c.args.self.now.sized
 
 pub returns-in_err-put_page-clause-goes_on : goal.returns-in_err-put_page-clause-goes_on
 returns-in_err-put_page-clause-goes_on g c = record { keeps = c.put_page.ensures.keeps; standing = refl }
