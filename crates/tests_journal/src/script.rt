@@ -83,11 +83,11 @@ fn kind_of(n: u64) -> Kind {
 }
 
 /// How long the payload of a Set is. Most messages take less than a page, some more than two.
-fn payload_len(n: u64) -> usize {
+fn payload_len(n: u64) -> u32 {
     if n % 17 == 15 {
         2716
     } else {
-        (n % 17 * 20 + 1) as usize
+        (n % 17 * 20 + 1) as u32
     }
 }
 
@@ -109,8 +109,8 @@ fn put_numbered(out: &mut Vec<u8>, n: u64) -> Result<(), AllocError> {
             // Four properties that are absent, and none of the user.
             out.extend_from_slice(&[0, 0, 0, 0, 0, 0, 0, 0])?;
             let len = payload_len(n);
-            out.extend_from_slice(&(len as u32).to_be_bytes())?;
-            out.resize(out.len().saturating_add(len), (n % 251) as u8)?;
+            out.extend_from_slice(&len.to_be_bytes())?;
+            out.resize(out.len().saturating_add(len as usize), (n % 251) as u8)?;
         }
     }
     Ok(())
