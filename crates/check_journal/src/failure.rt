@@ -10,6 +10,8 @@ pub enum Failure {
     Words,
     NoMemory,
     Wrong,
+    /// Another process has the files.
+    Busy,
     Io,
 }
 
@@ -22,14 +24,16 @@ impl Failure {
             }
             Failure::NoMemory => "out of memory",
             Failure::Wrong => "a call gave a wrong answer",
+            Failure::Busy => "another process has the files",
             Failure::Io => "the clock, the words, a file or the output failed",
         }
     }
 
-    /// The exit status: 1 if memory, the clock, the words, a file or the output failed, 2 for other words, 3 for a wrong answer.
+    /// The exit status: 1 if memory, the clock, the words, a file or the output failed or the files are held, 2 for other words, 3 for a
+    /// wrong answer.
     pub fn status(self) -> u8 {
         match self {
-            Failure::NoMemory | Failure::Io => 1,
+            Failure::NoMemory | Failure::Busy | Failure::Io => 1,
             Failure::Words => 2,
             Failure::Wrong => 3,
         }
@@ -64,8 +68,12 @@ impl From<io::Error> for Failure {
 }
 
 impl From<OpenError> for Failure {
-    fn from(_error: OpenError) -> Failure {
-        Failure::Io
+    fn from(error: OpenError) -> Failure {
+        match error {
+            OpenError::OutOfMemory => Failure::NoMemory,
+            OpenError::Busy => Failure::Busy,
+            _ => Failure::Io,
+        }
     }
 }
 

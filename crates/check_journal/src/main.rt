@@ -7,7 +7,8 @@
 //! - `damage`: how many openings find none, one and both of two commits if the log is cut off, and if a byte of it is changed;
 //! - `refusals`: how often each kind of call was refused memory, over disks in memory: 0 with ample memory.
 //!
-//! The status is 1 if memory, the clock, the words, a file or the output failed, 2 for other words, and 3 at a wrong answer.
+//! The status is 1 if memory, the clock, the words, a file or the output failed or another process has the files, 2 for other words, and 3
+//! at a wrong answer.
 #![tactic(auto)]
 
 mod damage;

@@ -72,3 +72,7 @@ module _ {D : Type 0} {g : Ghosts D} where
   -- each new outcome of a crash stands for what an old one stands for
   abbrev pub AddsNoOutcome : Journal D g → Journal D g → Type 0
   AddsNoOutcome old new = stream.AddsNoOutcome old.stream new.stream
+
+  -- it stays closed, no crash leaves more, and the files are not touched
+  abbrev pub StaysClosed : Journal D g → Journal D g → Type 0
+  StaysClosed old new = stream.StaysClosed old.stream new.stream

@@ -28,7 +28,7 @@ pub struct Journal<D: Disk> {
 }
 
 impl<D: Disk> Journal<D> {
-    ghost use Rattle.rs_journal.specs.Journals.{may_leave, image, page_count, log_len, AreUsable, HasSpilled, IsClean, IsOpen, IsUnmade, files_of, Keeps, StandsFor, EachStandsForOne, AddsNoOutcome, Holds, Rests};
+    ghost use Rattle.rs_journal.specs.Journals.{may_leave, image, page_count, log_len, AreUsable, HasSpilled, IsClean, IsOpen, IsUnmade, files_of, Keeps, StandsFor, EachStandsForOne, AddsNoOutcome, Holds, Rests, StaysClosed};
     ghost use Rattle.rs_journal_pages.specs.Streams.{Rests as RestsStream, Stands as StandsStream};
     ghost use Rattle.rs_journal.specs.Frames.{frames};
 
@@ -43,6 +43,7 @@ impl<D: Disk> Journal<D> {
         ensures back { IfErr result (λ e. e.value ≡ files) }
         ensures over { IfOk result (λ it. files_of it ≡ (files.log, files.db)) }
         ensures usable { IfOk result AreUsable }
+        ensures closed { IfOk result (λ it. ¬ IsOpen it) }
     {
         let stream = PageStream::new(alloc, files, seed)?;
         Ok(Journal {
@@ -107,14 +108,19 @@ impl<D: Disk> Journal<D> {
         }
     }
 
-    /// Hands on the operations that stand, once more. What was pushed since the last commit is forgotten.
+    /// Hands on the operations that stand, once more. What was pushed since the last commit is forgotten. A closed journal refuses it.
     pub fn read_again<S: OperationSink>(&mut self, sink: &mut S) -> Result<(), ReadFault>
+        ensures open { OnOk result (IsOpen self.old) }
+        ensures closed { ¬ IsOpen self.old → StaysClosed self.old self.new }
         ensures read { OnOk result ((operations : List Kept) × ((before : List Kept) → S.has_taken sink.old before → S.has_taken sink.new (before ++ operations))
-            × ((standing seen : List Kept) → Holds self.old standing seen → All IsOperation standing → IsOpen self.old → IsClean self.new → operations ≡ standing)) }
+            × ((standing seen : List Kept) → Holds self.old standing seen → All IsOperation standing → IsClean self.new → operations ≡ standing)) }
         ensures rests { (standing seen : List Kept) → Holds self.old standing seen → Rests self.new standing }
         ensures crash { AddsNoOutcome self.old self.new }
     {
         self.stream.rollback();
+        if !self.stream.is_open() {
+            return Err(ReadFault::Disk(Error::Closed));
+        }
         match self.read_stream(sink) {
             Ok(()) => Ok(()),
             Err(fault) => Err(fault),
@@ -145,6 +151,7 @@ impl<D: Disk> Journal<D> {
 
     /// Forgets what was pushed since the last commit.
     pub fn rollback(&mut self)
+        ensures closed { ¬ IsOpen self.old → StaysClosed self.old self.new }
         ensures rests { (standing seen : List Kept) → Holds self.old standing seen → Rests self.new standing }
         ensures crash { AddsNoOutcome self.old self.new }
     {
@@ -155,6 +162,7 @@ impl<D: Disk> Journal<D> {
     /// is forgotten.
     pub fn begin_anew(&mut self) -> Result<(), WriteFault>
         ensures open { OnOk result (IsOpen self.old) }
+        ensures closed { ¬ IsOpen self.old → StaysClosed self.old self.new }
         ensures begun { OnOk result ((standing seen : List Kept) → Holds self.old standing seen → Holds self.new standing []) }
         ensures kind { IfErr result IsRefused }
         ensures refused { OnErr result ((standing seen : List Kept) → Holds self.old standing seen → Rests self.new standing) }
@@ -169,6 +177,7 @@ impl<D: Disk> Journal<D> {
     /// Pushes the frame of an operation. At an error some of it may be pushed.
     fn push_frame(&mut self, operation: &Operation) -> Result<(), Error>
         ensures open { OnOk result (IsOpen self.old) }
+        ensures closed { ¬ IsOpen self.old → StaysClosed self.old self.new }
         ensures fits { OnOk result (IsOperation operation.now) }
         ensures pushed { OnOk result ((standing seen : List Kept) → Holds self.old standing seen → Holds self.new standing (seen ++ operation.now ∷ [])) }
         ensures stands { (standing seen : List Kept) → Holds self.old standing seen → StandsStream self.new.stream (frames standing) }
@@ -185,6 +194,7 @@ impl<D: Disk> Journal<D> {
     /// Pushes an operation behind what is seen. At an error what was pushed since the last commit is forgotten.
     pub fn push(&mut self, operation: &Operation) -> Result<(), WriteFault>
         ensures open { OnOk result (IsOpen self.old) }
+        ensures closed { ¬ IsOpen self.old → StaysClosed self.old self.new }
         ensures fits { OnOk result (IsOperation operation.now) }
         ensures pushed { OnOk result ((standing seen : List Kept) → Holds self.old standing seen → Holds self.new standing (seen ++ operation.now ∷ [])) }
         ensures kind { IfErr result IsRefused }
@@ -201,10 +211,10 @@ impl<D: Disk> Journal<D> {
     }
 
     /// Makes what is seen what stands. `Refused`: what was pushed is forgotten, and no crash brings it back. `Doubtful`: a crash leaves
-    /// the one or the other, and the journal is closed: from then on each of these calls refuses, and no crash leaves more than before.
+    /// the one or the other, and the journal is closed: from then on each call but an opening refuses, and does not touch the files.
     pub fn commit(&mut self) -> Result<(), WriteFault>
         ensures open { OnOk result (IsOpen self.old) }
-        ensures closed { ¬ IsOpen self.old → AddsNoOutcome self.old self.new }
+        ensures closed { ¬ IsOpen self.old → StaysClosed self.old self.new }
         ensures done { OnOk result ((standing seen : List Kept) → Holds self.old standing seen → Rests self.new seen) }
         ensures doubtful { IfErr result (λ e. ¬ IsRefused e → ¬ IsOpen self.new) }
         ensures refused { IfErr result (λ e. IsRefused e → (standing seen : List Kept) → Holds self.old standing seen → Rests self.new standing) }
@@ -241,7 +251,7 @@ impl<D: Disk> Journal<D> {
     /// then whatever comes of this, a crash leaves operations after which just these are retained. The errors are those of a commit.
     pub fn shorten(&mut self, retained: &Retained) -> Result<(), WriteFault>
         ensures open { OnOk result (IsOpen self.old) }
-        ensures closed { ¬ IsOpen self.old → AddsNoOutcome self.old self.new }
+        ensures closed { ¬ IsOpen self.old → StaysClosed self.old self.new }
         ensures done { OnOk result ((standing seen : List Kept) → Holds self.old standing seen → Rests self.new (sets_of retained.now)) }
         ensures doubtful { IfErr result (λ e. ¬ IsRefused e → ¬ IsOpen self.new) }
         ensures refused { IfErr result (λ e. IsRefused e → (standing seen : List Kept) → Holds self.old standing seen → Rests self.new standing) }
@@ -264,8 +274,10 @@ impl<D: Disk> Journal<D> {
 
     /// Copies what is committed from the log into the file of pages, and empties the log. No commit does so by itself, so call this while
     /// nothing waits and [`is_log_long`](Journal::is_log_long). What was pushed since the last commit stays; if some of it is in the log
-    /// already, nothing is copied.
+    /// already, nothing is copied. A closed journal refuses it.
     pub fn checkpoint(&mut self) -> Result<(), Error>
+        ensures open { OnOk result (IsOpen self.old) }
+        ensures closed { ¬ IsOpen self.old → StaysClosed self.old self.new }
         ensures copied { OnOk result (¬ HasSpilled self.old → log_len self.new ≡ 0) }
         ensures holds { (standing seen : List Kept) → Holds self.old standing seen → Holds self.new standing seen }
         ensures rests { (standing : List Kept) → Rests self.old standing → Rests self.new standing }

@@ -73,6 +73,12 @@ module _ {D : Type 0} {g : Ghosts D} where
   abbrev pub AddsNoOutcome : PageStream D g → PageStream D g → Type 0
   AddsNoOutcome old new = AddsNothing page_size (may_leave old) (may_leave new)
 
+  -- it stays closed, and the files are not touched
+  pub record StaysClosed (old new : PageStream D g) : Type 0 where
+    pub closed : ¬ IsOpen new
+    pub files : files_of new ≡ files_of old
+    pub outcomes : AddsNoOutcome old new
+
 -- This stream stands: it is what was committed, and a crash leaves it and nothing else.
 pub record HasCommitted {D : Type 0} {g : Ghosts D} (it : PageStream D g) (standing : List ℕ) : Type 0 where
   pub committed : IsSound it → HasStream (state it.pager).committed it.standing.first it.standing.count standing

@@ -52,7 +52,7 @@ fn put_page<D: Disk>(pager: &mut Pager<D>, at: u32, page: &[u8]) -> Result<(), E
 
 impl<D: Disk> PageStream<D> {
     ghost use Rattle.rs_journal_pages.specs.Images.{Keeps as HasImage};
-    ghost use Rattle.rs_journal_pages.specs.Streams.{files_of, may_leave, image, page_count, AreUsable, IsClean, IsOpen, IsSound, AddsNoOutcome, GoesOn, HasSpilled, log_len, part_at, SameParts, Stands, Holds, Rests};
+    ghost use Rattle.rs_journal_pages.specs.Streams.{files_of, may_leave, image, page_count, AreUsable, IsClean, IsOpen, IsSound, AddsNoOutcome, GoesOn, HasSpilled, log_len, part_at, SameParts, Stands, Holds, Rests, StaysClosed};
 
     /// A stream over these files, which [`open`](PageStream::open) has to read first.
     pub fn new(
@@ -64,6 +64,7 @@ impl<D: Disk> PageStream<D> {
         ensures back { IfErr result (λ e. e.value ≡ files) }
         ensures over { IfOk result (λ it. files_of it ≡ (files.log, files.db)) }
         ensures usable { IfOk result AreUsable }
+        ensures closed { IfOk result (λ it. ¬ IsOpen it) }
     {
         // No commit copies the log by itself: whoever lets the files be synced only now and then has to choose the moment.
         let options = Options {
@@ -124,6 +125,7 @@ impl<D: Disk> PageStream<D> {
     pub fn rollback(&mut self)
         ensures rests { (standing : List ℕ) → Stands self.old standing → Rests self.new standing }
         ensures open { IsOpen self.new ↔ IsOpen self.old }
+        ensures closed { ¬ IsOpen self.old → StaysClosed self.old self.new }
         ensures crash { AddsNoOutcome self.old self.new }
     {
         self.pager.rollback();
@@ -187,6 +189,7 @@ impl<D: Disk> PageStream<D> {
     /// Pushes these bytes. At an error some of them are pushed.
     fn push_all(&mut self, bytes: &[u8]) -> Result<(), Error>
         ensures open { OnOk result (IsOpen self.old) }
+        ensures closed { ¬ IsOpen self.old → StaysClosed self.old self.new }
         ensures pushed { OnOk result ((standing seen : List ℕ) → Holds self.old standing seen → Holds self.new standing (seen ++ bytes.now)) }
         ensures goes_on { GoesOn self.old self.new }
     {
@@ -202,6 +205,7 @@ impl<D: Disk> PageStream<D> {
     /// Adds these bytes to what is seen. At an error what was pushed since the last commit is forgotten. A closed stream refuses them.
     pub fn push(&mut self, bytes: &[u8]) -> Result<(), Error>
         ensures open { OnOk result (IsOpen self.old) }
+        ensures closed { ¬ IsOpen self.old → StaysClosed self.old self.new }
         ensures pushed { OnOk result ((standing seen : List ℕ) → Holds self.old standing seen → Holds self.new standing (seen ++ bytes.now)) }
         ensures refused { OnErr result ((standing seen : List ℕ) → Holds self.old standing seen → Rests self.new standing) }
         ensures crash { AddsNoOutcome self.old self.new }
@@ -219,8 +223,10 @@ impl<D: Disk> PageStream<D> {
     fn put_head(&mut self) -> Result<(), Error>
         ensures begun { OnOk result ((standing : List ℕ) → Rests self.old standing → Holds self.new standing []) }
         ensures open { OnOk result (IsOpen self.new) }
+        ensures closed { ¬ IsOpen self.old → StaysClosed self.old self.new }
         ensures goes_on { GoesOn self.old self.new }
     {
+        self.check_open()?;
         let Some(first) = self.standing.next_number() else {
             return Err(Error::Full);
         };
@@ -234,6 +240,7 @@ impl<D: Disk> PageStream<D> {
     /// last commit is forgotten. A closed stream refuses it.
     pub fn begin_anew(&mut self) -> Result<(), Error>
         ensures open { OnOk result (IsOpen self.old) }
+        ensures closed { ¬ IsOpen self.old → StaysClosed self.old self.new }
         ensures begun { OnOk result ((standing seen : List ℕ) → Holds self.old standing seen → Holds self.new standing []) }
         ensures refused { OnErr result ((standing seen : List ℕ) → Holds self.old standing seen → Rests self.new standing) }
         ensures crash { AddsNoOutcome self.old self.new }
@@ -263,11 +270,12 @@ impl<D: Disk> PageStream<D> {
     /// Puts the tail and commits. At an error the transaction goes on.
     fn commit_all(&mut self) -> Result<(), Error>
         ensures open { OnOk result (IsOpen self.old) }
-        ensures closed { ¬ IsOpen self.old → AddsNoOutcome self.old self.new }
+        ensures closed { ¬ IsOpen self.old → StaysClosed self.old self.new }
         ensures done { OnOk result ((standing seen : List ℕ) → Holds self.old standing seen → Rests self.new seen) }
         ensures stands { OnErr result (IsOpen self.new → (standing seen : List ℕ) → Holds self.old standing seen → Stands self.new standing) }
         ensures crash { (standing seen : List ℕ) → Holds self.old standing seen → (left : Image) → may_leave self.new left → HasImage left standing ⊎ HasImage left seen }
     {
+        self.check_open()?;
         if let Err(error) = self.flush() {
             return Err(error);
         }
@@ -279,10 +287,10 @@ impl<D: Disk> PageStream<D> {
     }
 
     /// Makes what is seen the stream that stands. At an error that leaves it open, what was pushed is forgotten, and no crash brings it
-    /// back. At one that closes it, a crash leaves the one or the other. A closed stream refuses it, and no crash leaves more than before.
+    /// back. At one that closes it, a crash leaves the one or the other. A closed stream refuses it, and does not touch the files.
     pub fn commit(&mut self) -> Result<(), Error>
         ensures open { OnOk result (IsOpen self.old) }
-        ensures closed { ¬ IsOpen self.old → AddsNoOutcome self.old self.new }
+        ensures closed { ¬ IsOpen self.old → StaysClosed self.old self.new }
         ensures done { OnOk result ((standing seen : List ℕ) → Holds self.old standing seen → Rests self.new seen) }
         ensures refused { OnErr result (IsOpen self.new → (standing seen : List ℕ) → Holds self.old standing seen → Rests self.new standing) }
         ensures crash { (standing seen : List ℕ) → Holds self.old standing seen → (left : Image) → may_leave self.new left → HasImage left standing ⊎ HasImage left seen }
@@ -298,13 +306,16 @@ impl<D: Disk> PageStream<D> {
 
     /// Copies what is committed from the log into the file of pages, and empties the log. No commit does so by itself, so call this while
     /// nothing waits and [`is_log_long`](PageStream::is_log_long). What was pushed since the last commit stays; if some of it is in the log
-    /// already, nothing is copied.
+    /// already, nothing is copied. A closed stream refuses it.
     pub fn checkpoint(&mut self) -> Result<(), Error>
+        ensures open { OnOk result (IsOpen self.old) }
+        ensures closed { ¬ IsOpen self.old → StaysClosed self.old self.new }
         ensures copied { OnOk result (¬ HasSpilled self.old → log_len self.new ≡ 0) }
         ensures holds { (standing seen : List ℕ) → Holds self.old standing seen → Holds self.new standing seen }
         ensures rests { (standing : List ℕ) → Rests self.old standing → Rests self.new standing }
         ensures crash { AddsNoOutcome self.old self.new }
     {
+        self.check_open()?;
         match self.pager.checkpoint() {
             Ok(()) => {
                 self.logged = 0;

@@ -7,11 +7,12 @@ ghost use Rattle.sqlite_disk.specs.Refusal.{finds_no_room};
 use sqlite_disk::{Crash, Disk, Tally};
 use std::io;
 
-/// Which calls fail: one of them, or each from one on.
+/// Which calls fail: one of them, each from one on, or each sync besides.
 #[derive(Clone, Copy, Debug, PartialEq, Eq)]
 pub enum Failing {
     Once,
     FromThen,
+    Syncs,
 }
 
 /// Another disk, which makes so many calls, and then fails.
@@ -58,7 +59,7 @@ fn spend(failing: Failing, calls_left: &mut u64, refused: &mut u64) -> io::Resul
     ensures kind { finds_no_room result ≡ false }
 {
     if *calls_left == 0 {
-        if failing == Failing::Once {
+        if failing != Failing::FromThen {
             *calls_left = u64::MAX;
         }
         *refused = refused.saturating_add(1);
@@ -131,6 +132,9 @@ impl<D: Disk> Disk for Faulty<D> {
     }
 
     fn sync(&mut self) -> io::Result<()> {
+        if self.failing == Failing::Syncs {
+            self.calls_left = 0;
+        }
         if let Err(error) = spend(self.failing, &mut self.calls_left, &mut self.refused) {
             self.sync_refused = true;
             return Err(error);

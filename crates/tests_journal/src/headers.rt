@@ -14,7 +14,7 @@ const BOTH: [Step; 6] = [
     Step::Push(3),
     Step::Commit,
     Step::Push(4),
-    Step::Push(15),
+    Step::Push(32),
     Step::Commit,
 ];
 
@@ -26,7 +26,7 @@ fn commits_of(alloc: Global, found: &[u8]) -> Result<Option<u8>, Fail> {
     if found == records_of(alloc, &[2, 3])?.as_slice() {
         return Ok(Some(1));
     }
-    if found == records_of(alloc, &[2, 3, 4, 15])?.as_slice() {
+    if found == records_of(alloc, &[2, 3, 4, 32])?.as_slice() {
         return Ok(Some(2));
     }
     Ok(None)
@@ -92,12 +92,13 @@ fn a_torn_log_keeps_whole_commits(rt: HostRuntime) -> Result<(), Fail> {
             most = commits;
         }
     }
-    for at in before..log.len() {
-        if at % 29 == 0 {
+    // Each byte of its head, and some of those behind.
+    for at in 0..log.len() {
+        if at < 32 || at % 29 == 0 {
             let mut torn = Vec::from_slice(alloc, log)?;
             torn[at] ^= 0x5A;
-            let commits = with_log(alloc, &torn)?;
-            assert!(rt; matches!(commits, Some(1 | 2)), "byte {at} of the log");
+            let commits = with_log(alloc, &torn)?.ok_or("whole commits")?;
+            assert!(rt; at < before || commits > 0, "byte {at} of the log");
         }
     }
     Ok(())

@@ -12,3 +12,5 @@ mod headers;
 mod real;
 #[cfg(test)]
 mod script;
+#[cfg(test)]
+mod syncs;

@@ -4,9 +4,9 @@ ghost use Rattle.std.specs.Prelude.{◌≡◌, IfOk};
 ghost use Rattle.rs_journal.specs.Journals.{AreUsable};
 
 use crate::faulty::{Failing, Faulty};
-use kit_test::{clear, set_at};
+use bytes::Bytes;
 use rs_journal::{Journal, OperationSink, ReadFault, Retained, WriteFault};
-use rs_journal_record::put_record;
+use rs_journal_record::{put_record, read_record};
 use rs_message::Operation;
 use sqlite_disk::{Disk, Files, Memory};
 use std::alloc::{AllocError, Global};
@@ -82,20 +82,49 @@ fn kind_of(n: u64) -> Kind {
     }
 }
 
-/// The operation of a number, which is its moment, too. Most take less than a page, some more than two.
-pub fn operation(alloc: Global, n: u64) -> Result<Operation, Fail> {
-    let topic = [b'a' + (n % TOPICS) as u8];
-    let made = match kind_of(n) {
-        Kind::Clear => clear(alloc, &topic),
-        Kind::Sweep => Some(Operation::Sweep(n)),
-        Kind::Set => {
-            let mut payload = Vec::new(alloc);
-            let len = if n % 17 == 15 { 2716 } else { n % 17 * 20 + 1 };
-            payload.resize(len as usize, (n % 251) as u8)?;
-            set_at(alloc, &topic, &payload, n, Some(INTERVAL))
+/// How long the payload of a Set is. Most messages take less than a page, some more than two.
+fn payload_len(n: u64) -> u32 {
+    if n % 17 == 15 {
+        2716
+    } else {
+        (n % 17 * 20 + 1) as u32
+    }
+}
+
+/// Appends the record of the operation of a number, which is its moment, too. The page of `rs_journal_record` has its bytes.
+fn put_numbered(out: &mut Vec<u8>, n: u64) -> Result<(), AllocError> {
+    let topic = b'a' + (n % TOPICS) as u8;
+    match kind_of(n) {
+        Kind::Clear => out.extend_from_slice(&[2, 0, 1, topic])?,
+        Kind::Sweep => {
+            out.push(3)?;
+            out.extend_from_slice(&n.to_be_bytes())?;
         }
-    };
-    Ok(made.ok_or("an operation")?)
+        Kind::Set => {
+            // QoS 1, and an interval.
+            out.extend_from_slice(&[1, 0, 1, topic, 1])?;
+            out.extend_from_slice(&n.to_be_bytes())?;
+            out.push(1)?;
+            out.extend_from_slice(&INTERVAL.to_be_bytes())?;
+            // Four properties that are absent, and none of the user.
+            out.extend_from_slice(&[0, 0, 0, 0, 0, 0, 0, 0])?;
+            let len = payload_len(n);
+            out.extend_from_slice(&len.to_be_bytes())?;
+            out.resize(out.len().saturating_add(len as usize), (n % 251) as u8)?;
+        }
+    }
+    Ok(())
+}
+
+/// The operation of a number.
+pub fn operation(alloc: Global, n: u64) -> Result<Operation, Fail> {
+    let mut record = Vec::new(alloc);
+    put_numbered(&mut record, n)?;
+    let mut rest = Bytes::copy_from_slice(alloc, &record)?;
+    match read_record(alloc, &mut rest) {
+        Ok(operation) => Ok(operation),
+        Err(_) => Err("an operation".into()),
+    }
 }
 
 /// After the operation of this number the topic of this one holds the message of a number, or none.
@@ -130,7 +159,7 @@ fn retained_after(alloc: Global, numbers: &[u64]) -> Result<Vec<u64>, Fail> {
 pub fn records_of(alloc: Global, numbers: &[u64]) -> Result<Vec<u8>, Fail> {
     let mut records = Vec::new(alloc);
     for n in numbers {
-        put_record(&mut records, &operation(alloc, *n)?)?;
+        put_numbered(&mut records, *n)?;
     }
     Ok(records)
 }

@@ -1,10 +1,10 @@
-use Rattle.std.proofs.Common.{◌≡◌, ◌++◌, ℕ, List, length, ap, subst, ◌∙◌, arith}
+use Rattle.std.proofs.Common.{◌≡◌, ◌++◌, ℕ, List, length, refl, ap, subst, ◌∙◌, arith}
 use Rattle.std.specs.Int.{w32, to_be_bytes}
 use Rattle.rs_journal_record.specs.Records.{record_form}
 use Rattle.rs_journal_record.proofs.Sizes.{small_record}
 use Rattle.sqlite_wal.proofs.StateLemmas.{AddsNothing-fewer, AddsNothing-trans}
 use Rattle.rs_journal_pages.specs.Streams.{Holds, may_leave}
-use Rattle.rs_journal_pages.proofs.StandsLemmas.{stands_if_rests, stands_of}
+use Rattle.rs_journal_pages.proofs.StandsLemmas.{closed_same, stands_if_rests, stands_of}
 use Rattle.rs_journal.specs.Frames.{frames}
 use Rattle.rs_journal.proofs.FrameLemmas.{frame_pushed}
 use Rattle.rs_journal.proofs.journal.Journal.push_frame.Goals as goal
@@ -52,3 +52,15 @@ overflow_cast-len g c =
     let out = c.put_record.new.out in
     let is : out.items ≡ record_form operation = c.in_ok-put_record.ensures.put ∙ ap (λ (l : List ℕ). l ++ record_form operation) c.clear.ensures.items in
     omega (arith, small_record operation c.in_ok-put_record.ensures.fits, ap length is, out.ok.0, c.len-len.ensures)
+
+pub returns-in_err-put_record-clause-closed : goal.returns-in_err-put_record-clause-closed
+returns-in_err-put_record-clause-closed g c = closed_same c.args.self.now.stream _ refl
+
+pub returns-in_err-push-clause-closed : goal.returns-in_err-push-clause-closed
+returns-in_err-push-clause-closed g c = c.push.ensures.closed
+
+pub returns-in_err-push-2-clause-closed : goal.returns-in_err-push-2-clause-closed
+returns-in_err-push-2-clause-closed g c = λ shut. absurd (shut c.in_ok-push.ensures.open)
+
+pub returns-clause-closed : goal.returns-clause-closed
+returns-clause-closed g c = λ shut. absurd (shut c.in_ok-push.ensures.open)

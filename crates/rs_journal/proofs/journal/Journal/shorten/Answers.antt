@@ -55,3 +55,15 @@ pub returns-in-Err-commit-clause-same : goal.returns-in-Err-commit-clause-same
 returns-in-Err-commit-clause-same g c = λ standing seen holds retains left may.
     same_retained c.args.retained.now standing left c.in_default-push_sets.ensures.leave retains
     (c.commit.ensures.crash standing (sets_of c.args.retained.now) (c.in_default-push_sets.ensures.pushed standing [] (c.in_default.ensures.begun standing seen holds)) left may)
+
+pub returns-in-Err-clause-closed : goal.returns-in-Err-clause-closed
+returns-in-Err-clause-closed g c = c.begin_anew.ensures.closed
+
+pub returns-in-Err-push_sets-clause-closed : goal.returns-in-Err-push_sets-clause-closed
+returns-in-Err-push_sets-clause-closed g c = λ shut. absurd (shut c.in_default.ensures.open)
+
+pub returns-in-Ok-clause-closed : goal.returns-in-Ok-clause-closed
+returns-in-Ok-clause-closed g c = λ shut. absurd (shut c.in_default.ensures.open)
+
+pub returns-in-Err-commit-clause-closed : goal.returns-in-Err-commit-clause-closed
+returns-in-Err-commit-clause-closed g c = λ shut. absurd (shut c.in_default.ensures.open)
