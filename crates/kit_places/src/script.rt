@@ -296,7 +296,7 @@ pub fn free_scripts(
 ) -> Result<Vec<FreeTurn<Script>>, AllocError> {
     let mut free = Vec::with_capacity(alloc, turns.len())?;
     for turn in turns {
-        free.push(FreeTurn::new(turn)).map_err(|_| AllocError)?;
+        free.push(FreeTurn::new(turn))?;
     }
     Ok(free)
 }

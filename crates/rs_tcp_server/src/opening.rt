@@ -34,7 +34,7 @@ pub(crate) fn turns<H: Clock + Log + Copy>(
         let full = Arc::try_clone(&full)?;
         let meter = Meter::new(metrics, before + 1)?;
         let turn = ListenTurn::new(rt, alloc, listener, full, word, meter, before + 1);
-        turns.push(FreeTurn::new(turn)).map_err(|_| AllocError)?;
+        turns.push(FreeTurn::new(turn))?;
     }
     Ok(turns)
 }
