@@ -201,8 +201,8 @@ fn known_turns(alloc: Global) -> Result<Vec<FreeTurn<Listed>>, AllocError>
     let reads_too = played(alloc, SUBSCRIBES)?;
     let second = place_of(alloc, vec![in alloc; reads_too]?);
     let mut turns = Vec::new(alloc);
-    turns.push(first).map_err(|_| AllocError)?;
-    turns.push(second).map_err(|_| AllocError)?;
+    turns.push(first)?;
+    turns.push(second)?;
     Ok(turns)
 }
 
@@ -244,7 +244,7 @@ fn filling_turn(alloc: Global) -> Result<Vec<FreeTurn<Listed>>, AllocError>
     let reads = played(alloc, SUBSCRIBES)?;
     let place = place_of(alloc, vec![in alloc; fills, reads]?);
     let mut turns = Vec::new(alloc);
-    turns.push(place).map_err(|_| AllocError)?;
+    turns.push(place)?;
     Ok(turns)
 }
 
