@@ -15,7 +15,7 @@ use std::time::Clock;
 
 /// A turn for each client, the first of line 1, and so on. They share the listener and what the log is told of the store. The log calls a
 /// client by this word, and the metrics count for its line.
-pub(crate) fn turns<H: Clock + Log + Copy>(
+pub(crate) fn turns<H: Clock + Log + Copy + Send>(
     rt: H,
     alloc: Global,
     listener: Arc<Listener>,
