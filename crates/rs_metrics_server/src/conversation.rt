@@ -10,7 +10,6 @@ use std::alloc::{AllocError, Global};
 use std::io;
 use std::io::{ErrorKind, Read, Write};
 use std::net::{OpenStream, Shutdown};
-use std::rt::Files;
 
 /// How many bytes one read takes at most.
 const READ_SIZE: usize = 1_024;
@@ -85,9 +84,9 @@ impl<S: Read + Write + OpenStream> Conversation<S> {
 
     /// Goes on, once what it [waits](Conversation::wanted) for is there: reads or writes once. The numbers are those of the moment at which the
     /// whole request has come. It ends if a read or a write fails, or if memory is refused.
-    pub fn go_on<H: Files>(&mut self, rt: &H, metrics: &Metrics) {
+    pub fn go_on(&mut self, metrics: &Metrics) {
         let next = match self.stage {
-            Stage::Reading => self.read(rt, metrics),
+            Stage::Reading => self.read(metrics),
             Stage::Writing => self.write(),
             Stage::Discarding => self.discard(),
             Stage::Ended => Ok(Stage::Ended),
@@ -103,7 +102,7 @@ impl<S: Read + Write + OpenStream> Conversation<S> {
     }
 
     /// Reads once, and makes the reply if the request is whole, or is refused.
-    fn read<H: Files>(&mut self, rt: &H, metrics: &Metrics) -> io::Result<Stage> {
+    fn read(&mut self, metrics: &Metrics) -> io::Result<Stage> {
         let mut room = [0u8; READ_SIZE];
         let size = self.stream.read(&mut room)?;
         if size == 0 {
@@ -114,7 +113,7 @@ impl<S: Read + Write + OpenStream> Conversation<S> {
         match read_request(&mut server, self.input.as_slice()) {
             Asked::NeedMore => Ok(Stage::Reading),
             Asked::Metrics => {
-                let text = metrics_text(self.alloc, metrics, resident_bytes(rt, self.alloc))?;
+                let text = metrics_text(self.alloc, metrics, resident_bytes())?;
                 self.reply(&mut server, &Reply::metrics(text.as_bytes()))
             }
             Asked::Health => self.reply(&mut server, &Reply::health(metrics.is_taking())),

@@ -10,7 +10,6 @@ use std::alloc::{AllocError, Global};
 use std::io::{ErrorKind, Read, Write};
 use std::net::{Net, OpenStream, TcpListener, TcpStream};
 use std::os::fd::{AsRawFd, RawFd};
-use std::rt::Files;
 use std::time::{Clock, Duration};
 use std::{io, thread};
 
@@ -79,7 +78,7 @@ impl MetricsServer {
     /// # Errors
     ///
     /// Only if memory is refused at the start: then none was answered.
-    pub fn run<H: Clock + Files>(
+    pub fn run<H: Clock>(
         self,
         rt: &H,
         metrics: &Metrics,
@@ -97,7 +96,7 @@ impl MetricsServer {
             }
             // If the clock cannot be read, each connection has lasted too long.
             let now = rt.monotonic().unwrap_or(Duration::MAX);
-            go_on(rt, metrics, connections.as_mut_slice(), &asked[OTHERS..]);
+            go_on(metrics, connections.as_mut_slice(), &asked[OTHERS..]);
             connections.retain(|timed| !has_ended(timed, now));
             if asked[1].revents != 0 {
                 accept(rt, alloc, &listener, now, &mut connections);
@@ -149,15 +148,14 @@ fn wait<H: Clock>(rt: &H, asked: &mut [pollfd; DESCRIPTORS]) {
 }
 
 /// Lets each connection go on that was told of.
-fn go_on<H: Files, S: Read + Write + OpenStream>(
-    rt: &H,
+fn go_on<S: Read + Write + OpenStream>(
     metrics: &Metrics,
     connections: &mut [Timed<S>],
     told: &[pollfd],
 ) {
     for (timed, place) in connections.iter_mut().zip(told) {
         if place.revents != 0 {
-            timed.conversation.go_on(rt, metrics);
+            timed.conversation.go_on(metrics);
         }
     }
 }

@@ -214,7 +214,7 @@ impl Server {
     /// [`NoThread`](ListenFault::NoThread) if the thread of the store's writer, that of the first client or the first lane, or that for metrics
     /// cannot be started, [`Address`](ListenFault::Address) if the descriptors are refused by which clients are watched, or by which the thread
     /// for metrics is ended. No client was served, as the code is made; no clause says so.
-    pub fn run<H: Clock + Log + Threads + Files + Wait + Copy + Send + Sync + 'static>(
+    pub fn run<H: Clock + Log + Threads + Wait + Copy + Send + Sync + 'static>(
         self,
         rt: H,
     ) -> Result<Summary, ListenFault>

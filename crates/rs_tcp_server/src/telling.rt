@@ -5,7 +5,6 @@ use rs_metrics::{Limits, Metrics};
 use rs_metrics_server::{MAX_DESCRIPTORS, MetricsServer};
 use rs_tcp_sockets::{StopSignal, SystemClock};
 use std::alloc::{AllocError, Global};
-use std::rt::Files;
 use std::sync::Arc;
 use std::thread::{Builder, JoinHandle, Threads};
 use std::time::Clock;
@@ -48,7 +47,7 @@ pub(crate) fn share(metrics: &Option<Arc<Metrics>>) -> Result<Option<Arc<Metrics
 }
 
 /// Starts the thread that tells the numbers, if there are any.
-pub(crate) fn start_telling<H: Clock + Files + Threads + Copy + Send + 'static>(
+pub(crate) fn start_telling<H: Clock + Threads + Copy + Send + 'static>(
     rt: H,
     alloc: Global,
     server: Option<MetricsServer>,

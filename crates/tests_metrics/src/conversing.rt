@@ -7,7 +7,6 @@ use std::alloc::{AllocError, Global};
 use std::io;
 use std::io::{ErrorKind, Read, Write};
 use std::net::{OpenStream, Shutdown};
-use std::rt::Files;
 use std::sync::Arc;
 use std::sync::atomic::{AtomicU64, Ordering};
 use std::test::Fail;
@@ -95,12 +94,7 @@ struct Got {
 }
 
 /// Converses with a client to the end, or for so many steps.
-fn converse<H: Files>(
-    rt: &H,
-    alloc: Global,
-    is_taking: bool,
-    manner: Manner,
-) -> Result<Got, AllocError> {
+fn converse(alloc: Global, is_taking: bool, manner: Manner) -> Result<Got, AllocError> {
     let metrics = Metrics::new(alloc, LIMITS, 1_700_000_000)?;
     metrics.set_taking(is_taking);
     let shutdowns = Arc::new(alloc, AtomicU64::new(0)).map_err(|_| AllocError)?;
@@ -117,7 +111,7 @@ fn converse<H: Files>(
         if matches!(conversation.wanted(), Wanted::Nothing) {
             break;
         }
-        conversation.go_on(rt, &metrics);
+        conversation.go_on(&metrics);
         steps = step;
     }
     Ok(Got {
@@ -186,7 +180,7 @@ const ANSWERED: &[(&[u8], bool, &[u8])] = &[
 fn requests_are_answered(rt: HostRuntime) -> Result<(), Fail> {
     for (sends, is_taking, wanted) in ANSWERED {
         for (step, takes) in [(1, 1), (7, 1_000), (1_000, 3), (1_000, 1_000)] {
-            let got = converse(&rt, rt.alloc(), *is_taking, plain(*sends, step, takes))?;
+            let got = converse(rt.alloc(), *is_taking, plain(*sends, step, takes))?;
             assert!(rt; got.taken.as_slice() == *wanted, "{sends:?} {step}");
             assert!(rt; got.shutdowns == 1);
         }
@@ -197,7 +191,7 @@ fn requests_are_answered(rt: HostRuntime) -> Result<(), Fail> {
 #[test]
 fn the_numbers_are_told(rt: HostRuntime) -> Result<(), Fail> {
     let sends = b"GET /metrics HTTP/1.1\r\nHost: a\r\n\r\n".as_slice();
-    let got = converse(&rt, rt.alloc(), true, plain(sends, 100, 5_000))?;
+    let got = converse(rt.alloc(), true, plain(sends, 100, 5_000))?;
     let text = std::str::from_utf8(got.taken.as_slice()).map_err(|_| "text")?;
     assert!(rt;
         text.starts_with(
@@ -224,7 +218,7 @@ fn an_endless_client_is_ended(rt: HostRuntime) -> Result<(), Fail> {
         is_endless: true,
         takes: 1_000,
     };
-    let got = converse(&rt, alloc, true, endless)?;
+    let got = converse(alloc, true, endless)?;
     assert!(rt;
         got.taken
             .as_slice()
@@ -241,7 +235,7 @@ fn an_endless_client_is_ended(rt: HostRuntime) -> Result<(), Fail> {
         is_endless: true,
         takes: 1_000,
     };
-    let got = converse(&rt, alloc, true, pipelined)?;
+    let got = converse(alloc, true, pipelined)?;
     assert!(rt; got.taken.as_slice() == HEALTHY);
     assert!(rt; got.steps < 10_000);
     Ok(())
@@ -256,7 +250,7 @@ fn a_client_that_goes_gets_nothing(rt: HostRuntime) -> Result<(), Fail> {
         plain(b"GET /healthz HTTP/1.1\r\nHost", 5, 100),
         plain(b"GET /healthz HTTP/1.1\r\nHost: a\r\n\r\n", 5, 0),
     ] {
-        let got = converse(&rt, alloc, true, manner)?;
+        let got = converse(alloc, true, manner)?;
         assert!(rt; got.taken.is_empty());
         assert!(rt; got.shutdowns == 0);
         assert!(rt; got.steps < 100);

@@ -8,7 +8,6 @@ use std::alloc::{AllocError, Global};
 use std::io;
 use std::io::{Read, Write};
 use std::net::{Net, TcpListener, TcpStream};
-use std::rt::Files;
 use std::sync::Arc;
 use std::test::Fail;
 use std::thread::{JoinHandle, Threads, spawn};
@@ -25,13 +24,7 @@ struct Running {
 }
 
 fn start<
-    H: Net<Listener = TcpListener, Stream = TcpStream>
-        + Threads
-        + Clock
-        + Files
-        + Copy
-        + Send
-        + 'static,
+    H: Net<Listener = TcpListener, Stream = TcpStream> + Threads + Clock + Copy + Send + 'static,
 >(rt: H, alloc: Global) -> io::Result<Running> {
     let metrics = Metrics::new(alloc, LIMITS, 1_700_000_000)?;
     metrics.set_taking(true);
