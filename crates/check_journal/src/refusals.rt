@@ -1,6 +1,8 @@
 //! What a journal over disks in memory keeps after memory was refused to a call of it, or of its disks. A disk that is refused memory for
 //! a sync has failed to sync, so that a commit is in doubt.
 
+ghost use Rattle.std.specs.Prelude.{◌<◌};
+
 use crate::failure::{Failure, check};
 use crate::files::{Taken, journal_over};
 use crate::records::{Carries, numbered, operation};
@@ -24,6 +26,20 @@ enum Call {
     ReadAgain,
 }
 
+/// Where the count of a call stands.
+fn index_of(call: Call) -> usize
+    ensures { result < 6 }
+{
+    match call {
+        Call::Open => 0,
+        Call::BeginAnew => 1,
+        Call::Push => 2,
+        Call::Commit => 3,
+        Call::Checkpoint => 4,
+        Call::ReadAgain => 5,
+    }
+}
+
 /// How often memory was refused to each kind of call, and how often a commit was in doubt.
 #[derive(Drop)]
 struct Refused {
@@ -33,14 +49,7 @@ struct Refused {
 
 impl Refused {
     fn note(&mut self, call: Call) {
-        let at = match call {
-            Call::Open => 0,
-            Call::BeginAnew => 1,
-            Call::Push => 2,
-            Call::Commit => 3,
-            Call::Checkpoint => 4,
-            Call::ReadAgain => 5,
-        };
+        let at = index_of(call);
         self.counts[at] = self.counts[at].saturating_add(1);
     }
 }
