@@ -128,6 +128,18 @@ fn opened(alloc: Global, files: Disks, refused: &mut Refused) -> Result<(Kept, V
     Ok((journal, records))
 }
 
+/// Loses power and opens the files again. The records that are found.
+fn reopened(
+    alloc: Global,
+    journal: Kept,
+    refused: &mut Refused,
+) -> Result<(Kept, Vec<u8>), Failure> {
+    let mut files = journal.close();
+    files.log.crash();
+    files.db.crash();
+    opened(alloc, files, refused)
+}
+
 /// Makes a commit of these operations. At an error, the call that had it.
 fn commit(
     journal: &mut Kept,
@@ -191,10 +203,7 @@ fn kept(
     refused.note(call);
     if let WriteFault::Doubtful(_) = fault {
         refused.doubts = refused.doubts.saturating_add(1);
-        let mut files = journal.close();
-        files.log.crash();
-        files.db.crash();
-        let (again, found) = opened(alloc, files, refused)?;
+        let (again, found) = reopened(alloc, journal, refused)?;
         journal = again;
         if found.as_slice() == after.as_slice() {
             return Ok(journal);
@@ -228,8 +237,14 @@ pub fn work(alloc: Global) -> Result<Vec<u64>, Failure> {
         journal = kept(alloc, journal, batch, &standing, &mut refused)?;
         standing = records_after(alloc, &standing, batch)?;
         check_standing(alloc, &mut journal, &standing, &mut refused)?;
-        if is_anew && journal.is_open() {
+        if is_anew {
             copy_log(&mut journal, &mut refused)?;
+        }
+        // A checkpoint whose sync fails closes the journal.
+        if !journal.is_open() {
+            let (again, found) = reopened(alloc, journal, &mut refused)?;
+            check(found.as_slice() == standing.as_slice())?;
+            journal = again;
         }
     }
     let (_, found) = opened(alloc, journal.close(), &mut refused)?;
