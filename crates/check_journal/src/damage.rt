@@ -38,19 +38,32 @@ fn commits(rt: &HostRuntime, db: &[u8], log: &[u8]) -> Result<usize, Failure> {
     let mut taken = Taken::new(alloc);
     opened(alloc, rt.open_files(NAME)?, &mut taken)?;
     let mut wanted = Vec::new(alloc);
-    let found = taken.operations.len();
-    for n in 0..found {
-        wanted.extend_from_slice(&numbered(alloc, n as u32, 700, Carries::All)?)?;
+    let mut n: u32 = 0;
+    for _ in &taken.operations {
+        wanted.extend_from_slice(&numbered(alloc, n, 700, Carries::All)?)?;
+        n = n.saturating_add(1);
     }
     check(taken.records(alloc)?.as_slice() == wanted.as_slice())?;
-    Ok(found)
+    Ok(taken.operations.len())
 }
 
 /// Adds one to the count at this index.
 fn count(counts: &mut [u64], index: usize) -> Result<(), Failure> {
-    check(index < counts.len())?;
-    counts[index] = counts[index].saturating_add(1);
+    let Some(slot) = counts.get_mut(index) else {
+        return Err(Failure::Wrong);
+    };
+    *slot = slot.saturating_add(1);
     Ok(())
+}
+
+/// These bytes, of which one is changed.
+fn with_change(alloc: Global, bytes: &[u8], at: usize) -> Result<Vec<u8>, Failure> {
+    let mut changed = Vec::from_slice(alloc, bytes)?;
+    let Some(byte) = changed.get_mut(at) else {
+        return Err(Failure::Wrong);
+    };
+    *byte ^= 0x5A;
+    Ok(changed)
 }
 
 /// At how many lengths of the log no commit is found, and one. A longer log never has fewer. The first lengths at which one and both are
@@ -81,17 +94,15 @@ fn changes(
     to: usize,
     counts: &mut [u64],
 ) -> Result<(), Failure> {
-    let mut log = Vec::from_slice(rt.alloc(), &whole.log)?;
-    for at in from..to.min(log.len()) {
-        log[at] ^= 0x5A;
+    for at in from..to {
+        let log = with_change(rt.alloc(), &whole.log, at)?;
         count(counts, commits(rt, &whole.db, &log)?)?;
-        log[at] ^= 0x5A;
     }
     Ok(())
 }
 
-/// Makes two commits of one message each. How many commits are found with each length of the log that has less than both, and with each byte of the last
-/// commit changed: in both cases how often none, one and two.
+/// Makes two commits of one message each. How many commits are found with each length of the log that has less than both, and with each
+/// byte of the last commit changed: in both cases how often none, one and two.
 pub fn work(rt: &HostRuntime) -> Result<Vec<u64>, Failure> {
     let alloc = rt.alloc();
     let mut journal = opened(alloc, rt.open_files(NAME)?, &mut Taken::new(alloc))?;
@@ -99,8 +110,10 @@ pub fn work(rt: &HostRuntime) -> Result<Vec<u64>, Failure> {
     keep(alloc, &mut journal, 1)?;
     let whole = read_files(rt)?;
     drop(journal);
-    let mut counts = vec![in alloc; 0; 6]?;
-    let (first, both) = lengths(rt, &whole, &mut counts[..3])?;
-    changes(rt, &whole, first, both, &mut counts[3..])?;
+    let (mut cut, mut changed) = ([0u64; 3], [0u64; 3]);
+    let (first, both) = lengths(rt, &whole, &mut cut)?;
+    changes(rt, &whole, first, both, &mut changed)?;
+    let mut counts = Vec::from_slice(alloc, &cut)?;
+    counts.extend_from_slice(&changed)?;
     Ok(counts)
 }

@@ -62,14 +62,14 @@ pub fn journal_over<D: Disk>(alloc: Global, files: Files<D>) -> Result<Journal<D
 }
 
 /// An open journal over these files, whose operations the sink takes.
-pub fn opened<D: Disk + Drop>(
+pub fn opened<D: Disk + Drop, S: OperationSink>(
     alloc: Global,
     files: Files<D>,
-    taken: &mut Taken,
+    sink: &mut S,
 ) -> Result<Journal<D>, Failure> {
     let Ok(mut journal) = journal_over(alloc, files) else {
         return Err(Failure::NoMemory);
     };
-    journal.open(taken)?;
+    journal.open(sink)?;
     Ok(journal)
 }

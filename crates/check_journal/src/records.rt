@@ -10,11 +10,12 @@ use std::alloc::{AllocError, Global};
 pub const LONGEST_TOPIC: usize = 65_535;
 
 /// The most bytes that a payload has, beside the length of no properties.
-pub const LONGEST_PAYLOAD: usize = 262_143;
+pub const LONGEST_PAYLOAD: u32 = 262_143;
 
-/// Appends so many bytes, and before them their number, in two bytes.
+/// Appends these bytes, and before them their number, in two bytes.
 fn put_counted(out: &mut Vec<u8>, bytes: &[u8]) -> Result<(), AllocError> {
-    out.extend_from_slice(&(bytes.len() as u16).to_be_bytes())?;
+    let len = u16::try_from(bytes.len()).unwrap_or(u16::MAX);
+    out.extend_from_slice(&len.to_be_bytes())?;
     out.extend_from_slice(bytes)?;
     Ok(())
 }
@@ -50,7 +51,7 @@ pub enum Carries {
 pub fn put_set(
     out: &mut Vec<u8>,
     topic: &[u8],
-    payload: usize,
+    payload: u32,
     carries: Carries,
 ) -> Result<(), AllocError> {
     out.push(1)?;
@@ -66,18 +67,13 @@ pub fn put_set(
         // No interval, four properties that are absent, and none of the user.
         Carries::None => out.extend_from_slice(&[0, 0, 0, 0, 0, 0, 0, 0, 0])?,
     }
-    out.extend_from_slice(&(payload as u32).to_be_bytes())?;
-    out.resize(out.len().saturating_add(payload), b'x')?;
+    out.extend_from_slice(&payload.to_be_bytes())?;
+    out.resize(out.len().saturating_add(payload as usize), b'x')?;
     Ok(())
 }
 
 /// The record of the Set of the topic of this number.
-pub fn numbered(
-    alloc: Global,
-    n: u32,
-    payload: usize,
-    carries: Carries,
-) -> Result<Vec<u8>, Failure> {
+pub fn numbered(alloc: Global, n: u32, payload: u32, carries: Carries) -> Result<Vec<u8>, Failure> {
     let topic = format!(in alloc; "house/{n}/temperature")?;
     let mut record = Vec::new(alloc);
     put_set(&mut record, topic.as_bytes(), payload, carries)?;

@@ -1,6 +1,8 @@
 //! What a journal over disks in memory keeps after memory was refused to a call of it, or of its disks. A disk that is refused memory for
 //! a sync has failed to sync, so that a commit is in doubt.
 
+ghost use Rattle.std.specs.Prelude.{◌<◌};
+
 use crate::failure::{Failure, check};
 use crate::files::{Taken, journal_over};
 use crate::records::{Carries, numbered, operation};
@@ -24,6 +26,20 @@ enum Call {
     ReadAgain,
 }
 
+/// Where the count of a call stands.
+fn index_of(call: Call) -> usize
+    ensures { result < 6 }
+{
+    match call {
+        Call::Open => 0,
+        Call::BeginAnew => 1,
+        Call::Push => 2,
+        Call::Commit => 3,
+        Call::Checkpoint => 4,
+        Call::ReadAgain => 5,
+    }
+}
+
 /// How often memory was refused to each kind of call, and how often a commit was in doubt.
 #[derive(Drop)]
 struct Refused {
@@ -33,14 +49,7 @@ struct Refused {
 
 impl Refused {
     fn note(&mut self, call: Call) {
-        let at = match call {
-            Call::Open => 0,
-            Call::BeginAnew => 1,
-            Call::Push => 2,
-            Call::Commit => 3,
-            Call::Checkpoint => 4,
-            Call::ReadAgain => 5,
-        };
+        let at = index_of(call);
         self.counts[at] = self.counts[at].saturating_add(1);
     }
 }
@@ -119,6 +128,18 @@ fn opened(alloc: Global, files: Disks, refused: &mut Refused) -> Result<(Kept, V
     Ok((journal, records))
 }
 
+/// Loses power and opens the files again. The records that are found.
+fn reopened(
+    alloc: Global,
+    journal: Kept,
+    refused: &mut Refused,
+) -> Result<(Kept, Vec<u8>), Failure> {
+    let mut files = journal.close();
+    files.log.crash();
+    files.db.crash();
+    opened(alloc, files, refused)
+}
+
 /// Makes a commit of these operations. At an error, the call that had it.
 fn commit(
     journal: &mut Kept,
@@ -182,10 +203,7 @@ fn kept(
     refused.note(call);
     if let WriteFault::Doubtful(_) = fault {
         refused.doubts = refused.doubts.saturating_add(1);
-        let mut files = journal.close();
-        files.log.crash();
-        files.db.crash();
-        let (again, found) = opened(alloc, files, refused)?;
+        let (again, found) = reopened(alloc, journal, refused)?;
         journal = again;
         if found.as_slice() == after.as_slice() {
             return Ok(journal);
@@ -219,8 +237,14 @@ pub fn work(alloc: Global) -> Result<Vec<u64>, Failure> {
         journal = kept(alloc, journal, batch, &standing, &mut refused)?;
         standing = records_after(alloc, &standing, batch)?;
         check_standing(alloc, &mut journal, &standing, &mut refused)?;
-        if is_anew && journal.is_open() {
+        if is_anew {
             copy_log(&mut journal, &mut refused)?;
+        }
+        // A checkpoint whose sync fails closes the journal.
+        if !journal.is_open() {
+            let (again, found) = reopened(alloc, journal, &mut refused)?;
+            check(found.as_slice() == standing.as_slice())?;
+            journal = again;
         }
     }
     let (_, found) = opened(alloc, journal.close(), &mut refused)?;

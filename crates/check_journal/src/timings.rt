@@ -3,20 +3,23 @@
 use crate::failure::{Failure, check};
 use crate::files::{NAME, Taken, opened};
 use crate::records::{Carries, numbered, operation};
-use rs_journal::{Journal, OpenFiles, Switch, Switched};
+use rs_journal::{Journal, OpenFiles, Retained, Switch, Switched};
 use rs_message::Operation;
 use sqlite_disk::{Disk, Files};
 use std::alloc::Global;
 use std::time::{Clock, Instant};
 
-/// The payload of each message, which makes some 120 bytes with its topic.
-const PAYLOAD: usize = 100;
+/// The payload of a change whose record has some 120 bytes.
+const CHANGE: u32 = 76;
 
-/// Sets of so many topics.
-fn sets(alloc: Global, topics: u32) -> Result<Vec<Operation>, Failure> {
+/// The payload of a message that is found again.
+const MESSAGE: u32 = 100;
+
+/// Sets of so many topics, with payloads of this length.
+fn sets(alloc: Global, topics: u32, payload: u32) -> Result<Vec<Operation>, Failure> {
     let mut operations = Vec::new(alloc);
     for n in 0..topics {
-        let record = numbered(alloc, n, PAYLOAD, Carries::None)?;
+        let record = numbered(alloc, n, payload, Carries::None)?;
         operations.push(operation(alloc, &record)?)?;
     }
     Ok(operations)
@@ -39,7 +42,8 @@ fn commit_often<D: Disk>(
 
 /// The nanoseconds since then.
 fn since<C: Clock>(clock: &C, start: Instant) -> Result<u64, Failure> {
-    Ok(start.elapsed(clock)?.as_nanos() as u64)
+    let took = start.elapsed(clock)?;
+    Ok(u64::try_from(took.as_nanos()).unwrap_or(u64::MAX))
 }
 
 /// Times so many commits of 1, of 8 and of 64 changes, with a checkpoint behind each. The nanoseconds of all commits, and of the
@@ -54,7 +58,7 @@ fn time_commits<D: Disk + Drop, C: Clock>(
     let mut journal = opened(alloc, files, &mut Taken::new(alloc))?;
     let mut numbers = Vec::new(alloc);
     for changes in [1, 8, 64] {
-        let operations = sets(alloc, changes)?;
+        let operations = sets(alloc, changes, CHANGE)?;
         switch.set(false);
         let start = Instant::now(clock)?;
         commit_often(&mut journal, &operations, count)?;
@@ -86,19 +90,19 @@ pub fn synced(rt: &HostRuntime, count: u32) -> Result<Vec<u64>, Failure> {
     time_commits(rt, alloc, rt.open_files(NAME)?, count, &switch)
 }
 
-/// Keeps so many messages, and times two openings that find them: in the log, and in the pages.
+/// Keeps so many messages, and times two openings that find them all and keep the message of each topic: in the log, and in the pages.
 pub fn reading(rt: &HostRuntime, count: u32) -> Result<Vec<u64>, Failure> {
     let alloc = rt.alloc();
     let mut journal = opened(alloc, rt.open_files(NAME)?, &mut Taken::new(alloc))?;
-    commit_often(&mut journal, &sets(alloc, count)?, 1)?;
+    commit_often(&mut journal, &sets(alloc, count, MESSAGE)?, 1)?;
     let mut numbers = Vec::new(alloc);
     for _ in 0..2 {
         let files = journal.close();
-        let mut taken = Taken::new(alloc);
+        let mut retained = Retained::new(alloc);
         let start = Instant::now(rt)?;
-        journal = opened(alloc, files, &mut taken)?;
+        journal = opened(alloc, files, &mut retained)?;
         numbers.push(since(rt, start)?)?;
-        check(taken.operations.len() == count as usize)?;
+        check(retained.len() == count as usize)?;
         journal.checkpoint()?;
     }
     Ok(numbers)
