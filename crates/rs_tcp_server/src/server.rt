@@ -1,6 +1,6 @@
 //! The server.
 
-ghost use Rattle.std.specs.Prelude.{◌≡◌, ◌+◌, ◌<◌, ◌≤◌, ℕ, List, IfOk};
+ghost use Rattle.std.specs.Prelude.{◌≡◌, ◌+◌, ◌<◌, ◌≤◌, ℕ, List, IfOk, length};
 ghost use Rattle.rs_message.specs.declared.entry.TheConstants.{MAX_LINES};
 ghost use Rattle.rs_intake.specs.declared.cause.Cause.{Cause};
 ghost use Rattle.rs_places.specs.Store.{IsStoreRun};
@@ -10,15 +10,18 @@ use crate::fault::ListenFault;
 use crate::full_log::FullLog;
 use crate::opening::turns;
 use crate::polling::time_polls;
-use crate::telling::{descriptors_to_tell, end_telling, new_metrics, share, start_telling};
-use crate::turn::ClientWord;
+use crate::telling::{
+    Telling, descriptors_to_tell, end_telling, new_metrics, share, start_telling,
+};
+use crate::turn::{ClientWord, ListenTurn};
 use log::{Log, warn};
-use rs_intake::blank_queue;
+use rs_intake::{BlankQueue, blank_queue};
 use rs_message::{LineCount, MAX_LINES, PlaceCount};
 use rs_metrics::Limits;
 use rs_metrics_server::MetricsServer;
-use rs_places::run_store;
+use rs_places::{StoreEnd, run_store};
 use rs_places_pool::Runner;
+use rs_places_turns::FreeTurn;
 use rs_store::TopicLimit;
 use rs_tcp_sockets::{Listener, descriptor_limit, waiting_limit};
 use rs_tcp_watch::SocketWatch;
@@ -243,37 +246,85 @@ impl Server {
             topics: u64::from(topics.get()),
             bytes: memory,
         };
-        let metrics = new_metrics(&rt, alloc, &server, limits)?;
         tell_of_waiting(&rt, lines.get(), waiting);
-        let queue = blank_queue(alloc, lines)?;
-        let full = FullLog::new(queue.fullness()?);
-        let queue = queue
-            .with_polls(time_polls(&rt, alloc))
-            .with_metrics(share(&metrics)?);
-        let word = if lines.get() > alone {
-            ClientWord::Client
-        } else {
-            ClientWord::Place
-        };
-        let turns = turns(
-            rt,
-            alloc,
-            Arc::try_clone(&listener)?,
-            full,
-            lines,
-            word,
-            &metrics,
+        let (queue, turns, runner, telling) = prepare(
+            rt, alloc, listener, lines, alone, idle, limits, server,
         )?;
-        let runner = make_runner(rt, alloc, listener, lines.get(), alone, idle)?;
-        let telling = start_telling(rt, alloc, server, metrics)?;
-        let end = run_store(rt, alloc, blank, queue, turns, runner);
-        end_telling(&rt, telling);
-        let end = end?;
+        let end = serve(rt, alloc, blank, queue, turns, runner, telling)?;
         Ok(Summary {
             threads: end.threads,
             clients: lines.get(),
             changes: end.changes,
         })
+    }
+}
+
+/// What is there before the first client is served: the queue of the store, a turn for each client, what serves them, and the thread that
+/// tells the numbers.
+type Ready<H> = (
+    BlankQueue,
+    Vec<FreeTurn<ListenTurn<H>>>,
+    Runner<SocketWatch<H>>,
+    Option<Telling>,
+);
+
+/// Makes ready to serve so many clients.
+fn prepare<H: Clock + Log + Threads + Wait + Copy + Send + Sync + 'static>(
+    rt: H,
+    alloc: Global,
+    listener: Arc<Listener>,
+    lines: LineCount,
+    places: u16,
+    idle: Option<Duration>,
+    limits: Limits,
+    server: Option<MetricsServer>,
+) -> Result<Ready<H>, ListenFault>
+    ensures { IfOk result (λ ready. (ready.0.places ≡ lines) × (length ready.1.items ≡ lines)) }
+{
+    let metrics = new_metrics(&rt, alloc, &server, limits)?;
+    let queue = blank_queue(alloc, lines)?;
+    let full = FullLog::new(queue.fullness()?);
+    let queue = queue
+        .with_polls(time_polls(&rt, alloc))
+        .with_metrics(share(&metrics)?);
+    let word = if lines.get() > places {
+        ClientWord::Client
+    } else {
+        ClientWord::Place
+    };
+    let turns = turns(
+        rt,
+        alloc,
+        Arc::try_clone(&listener)?,
+        full,
+        lines,
+        word,
+        &metrics,
+    )?;
+    let runner = make_runner(rt, alloc, listener, lines.get(), places, idle)?;
+    let telling = start_telling(rt, alloc, server, metrics)?;
+    Ok((queue, turns, runner, telling))
+}
+
+/// Runs the store, and ends then the thread that tells its numbers.
+fn serve<H: Clock + Log + Threads + Wait + Copy + Send + Sync + 'static>(
+    rt: H,
+    alloc: Global,
+    blank: Blank,
+    queue: BlankQueue,
+    turns: Vec<FreeTurn<ListenTurn<H>>>,
+    runner: Runner<SocketWatch<H>>,
+    telling: Option<Telling>,
+) -> Result<StoreEnd<ListenTurn<H>>, ListenFault>
+    requires { queue.places ≡ length turns.items }
+    ensures { IfOk result (λ end. (before : List Connections) × (after : List Connections)
+        × IsStoreRun blank.limit queue.places before after end.version end.changes end.cause) }
+{
+    let end = run_store(rt, alloc, blank, queue, turns, runner);
+    end_telling(&rt, telling);
+    match end {
+        Ok(end) => Ok(end),
+        Err(fault) => Err(ListenFault::from(fault)),
     }
 }
 
