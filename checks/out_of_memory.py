@@ -5,8 +5,8 @@ of a session that was refused memory at one packet, which keeps nothing of that 
 when it comes again; or with status 1, write all replies before one or before a packet, and say on
 standard error what failed: never another answer. The program check_tasks does the same with the
 calls of a catalogue, of a window, of a store of versions, of the queue to its writer, of clients
-that share a seat, and of a client that is served, and check_journal with those of a journal. Without a
-refusal check_tasks looks at 200,000 connections as they come back.
+that share a seat, and of a client that is served. Without a refusal it looks at 200,000 connections
+as they come back.
 """
 
 import os
@@ -106,18 +106,17 @@ def sessions(name, steps, least, is_hex, library):
     enough(name, counts, least, at - 1)
 
 
-def calls(task, least, library, count=1, untold=0, name="check_tasks"):
-    """Runs a task of a program, in which so many allocations in a row fail. It prints how often each
-    kind of call was refused, a number a line.
+def calls(task, least, library, count=1, untold=0):
+    """Runs a task of check_tasks, in which so many allocations in a row fail. It prints how often
+    each kind of call was refused, a number a line.
 
     At least so many runs as `untold` says must have been refused memory in a call that does not
     tell it. If the task cannot go on, it says so, and in the first runs that the words were not
     read.
     """
     refused, unread = Counter(), 0
-    not_read = f"{name}: the clock, the words, ".encode()
-    no_memory = f"{name}: out of memory\n".encode()
-    words = [program(name), task]
+    not_read = b"check_tasks: the clock, the words, the input or the output failed\n"
+    words = [program("check_tasks"), task]
     for at, run, was_refused in in_turn(words, b"", library, count):
         printed = [int(line) for line in run.stdout.split()]
         counts = dict(zip(least, printed))
@@ -126,9 +125,9 @@ def calls(task, least, library, count=1, untold=0, name="check_tasks"):
             refused.update(counts)
             refused[UNTOLD] += was_refused and not any(counts.values())
             continue
-        is_unread = at == unread + 1 and run.stderr.startswith(not_read)
+        is_unread = at == unread + 1 and run.stderr == not_read
         unread += is_unread
-        is_reported = is_unread or run.stderr == no_memory
+        is_reported = is_unread or run.stderr == b"check_tasks: out of memory\n"
         if not (was_refused and run.returncode == 1 and run.stdout == b"" and is_reported):
             shown = f"status {run.returncode}, {run.stdout!r}, {run.stderr!r}"
             sys.exit(f"{task}, allocation {at}: {shown}")
@@ -181,9 +180,6 @@ def main():
             calls("queue", least | {"the last submit": held}, library, count)
             calls("clients", least | {"an answer": 2}, library, count)
             calls("connections", {"a connection": 2, "a publication": 2}, library, count)
-        kinds = ("an opening", "a new beginning", "a push", "a commit", "a checkpoint", "a reading")
-        least = dict.fromkeys(kinds, 2) | {"a commit in doubt": 2}
-        calls("refusals", least, library, untold=2, name="check_journal")
 
 
 if __name__ == "__main__":

@@ -1,2 +1,1 @@
 pub mod FrameLemmas
-pub mod RetainedLemmas

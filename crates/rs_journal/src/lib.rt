@@ -5,12 +5,9 @@ mod fault;
 mod journal;
 mod law;
 mod reading;
-mod retained;
 mod sink;
 
 pub use fault::{ReadFault, WriteFault};
 pub use journal::Journal;
 pub use law::journal_law;
-pub use retained::Retained;
-pub use rs_journal_pages::{Error, OpenError, OpenFault, OpenFiles, Switch, Switched};
 pub use sink::OperationSink;

@@ -16,13 +16,11 @@ page_filled a b part front is long_a long_b =
     ap (λ (k : ℕ). front ++ replicate (1024 - k) 0) long ∙ ap (λ (l : List ℕ). l ++ replicate (1024 - (length part + 10)) 0) is
     ∙ append_assoc (a ++ b) part (replicate (1024 - (length part + 10)) 0) ∙ append_assoc a b (part ++ replicate (1024 - (length part + 10)) 0)
 
-pub head_filled : (a b front : List ℕ) → front ≡ ((a ++ 1 ∷ []) ++ b) ++ b → length a ≡ 7 → length b ≡ 8
-    → front ++ replicate (1024 - length front) 0 ≡ a ++ (1 ∷ (b ++ (b ++ replicate (1024 - 24) 0)))
+pub head_filled : (a b front : List ℕ) → front ≡ (a ++ 1 ∷ []) ++ b → length a ≡ 7 → length b ≡ 8 → front ++ replicate (1024 - length front) 0 ≡ a ++ (1 ∷ (b ++ replicate (1024 - 16) 0))
 head_filled a b front is long_a long_b =
-    let zeros : List ℕ = replicate (1024 - 24) 0 in
-    let long : length front ≡ 24 = ap length is ∙ omega (arith, length-append ((a ++ 1 ∷ []) ++ b) b, length-append (a ++ 1 ∷ []) b, length-append a (1 ∷ [])) in
-    ap (λ (k : ℕ). front ++ replicate (1024 - k) 0) long ∙ ap (λ (l : List ℕ). l ++ zeros) is
-    ∙ append_assoc ((a ++ 1 ∷ []) ++ b) b zeros ∙ append_assoc (a ++ 1 ∷ []) b (b ++ zeros) ∙ append_assoc a (1 ∷ []) (b ++ (b ++ zeros))
+    let long : length front ≡ 16 = ap length is ∙ omega (arith, length-append (a ++ 1 ∷ []) b, length-append a (1 ∷ [])) in
+    ap (λ (k : ℕ). front ++ replicate (1024 - k) 0) long ∙ ap (λ (l : List ℕ). l ++ replicate (1024 - 16) 0) is
+    ∙ append_assoc (a ++ 1 ∷ []) b (replicate (1024 - 16) 0) ∙ append_assoc a (1 ∷ []) (b ++ replicate (1024 - 16) 0)
 
 -- what the calls that fill a page leave
 pub page_is : (v0 v1 v2 v3 v4 a b part : List ℕ) (n3 number : ℕ) → v0 ≡ [] → v1 ≡ v0 ++ a → v2 ≡ v1 ++ b → v3 ≡ v2 ++ part → n3 ≡ length a + length b + length part
@@ -37,18 +35,14 @@ page_is v0 v1 v2 v3 v4 a b part n3 number h0 h1 h2 h3 n h4 is_a is_b small =
     ap (λ (l : List ℕ). l ++ (b ++ (part ++ replicate (1024 - (length part + 10)) 0))) p ∙ ap (λ (l : List ℕ). a' ++ (l ++ (part ++ replicate (1024 - (length part + 10)) 0))) q in
     resized v3 v4 n3 (omega (arith, n, long, long_a, long_b)) (omega (arith, long, small)) h4 ∙ page_filled a b part v3 is long_a long_b ∙ formed (to_be_bytes w64 number) (to_be_bytes w16 (length part)) is_a is_b
 
-pub head_is : (v0 v1 v2 v3 v4 v5 a b : List ℕ) (n4 first : ℕ) → v0 ≡ [] → v1 ≡ v0 ++ name → v2 ≡ v1 ++ 1 ∷ [] → v3 ≡ v2 ++ a → v4 ≡ v3 ++ b → n4 ≡ 8 + length a + length b
-    → v5 ≡ take 1024 v4 ++ replicate (1024 - n4) 0 → a ≡ to_be_bytes w64 first → b ≡ to_be_bytes w64 first → v5 ≡ head_form first
+pub head_is : (v0 v1 v2 v3 v4 b : List ℕ) (n3 first : ℕ) → v0 ≡ [] → v1 ≡ v0 ++ name → v2 ≡ v1 ++ 1 ∷ [] → v3 ≡ v2 ++ b → n3 ≡ 8 + length b
+    → v4 ≡ take 1024 v3 ++ replicate (1024 - n3) 0 → b ≡ to_be_bytes w64 first → v4 ≡ head_form first
 unfolding head_form
-head_is v0 v1 v2 v3 v4 v5 a b n4 first h0 h1 h2 h3 h4 n h5 is_a is_b =
-    let same : b ≡ a = is_b ∙ sym is_a in
-    let is : v4 ≡ ((name ++ 1 ∷ []) ++ a) ++ a =
-    h4 ∙ ap (λ (l : List ℕ). v3 ++ l) same ∙ ap (λ (l : List ℕ). l ++ a) (h3 ∙ ap (λ (l : List ℕ). l ++ a) (h2 ∙ ap (λ (l : List ℕ). l ++ 1 ∷ []) (h1 ∙ ap (λ (l : List ℕ). l ++ name) h0))) in
-    let long_a : length a ≡ 8 = ap length is_a in
+head_is v0 v1 v2 v3 v4 b n3 first h0 h1 h2 h3 n h4 is_b =
+    let is : v3 ≡ (name ++ 1 ∷ []) ++ b = h3 ∙ ap (λ (l : List ℕ). l ++ b) (h2 ∙ ap (λ (l : List ℕ). l ++ 1 ∷ []) (h1 ∙ ap (λ (l : List ℕ). l ++ name) h0)) in
     let long_b : length b ≡ 8 = ap length is_b in
-    let long : length v4 ≡ 24 = ap length is ∙ omega (arith, long_a, length-append ((name ++ 1 ∷ []) ++ a) a, length-append (name ++ 1 ∷ []) a) in
-    resized v4 v5 n4 (omega (arith, n, long, long_a, long_b)) (omega (arith, long)) h5 ∙ head_filled name a v4 is refl long_a
-    ∙ ap (λ (l : List ℕ). name ++ (1 ∷ (l ++ (l ++ replicate (1024 - 24) 0)))) is_a
+    let long : length v3 ≡ 16 = ap length is ∙ omega (arith, long_b) in
+    resized v3 v4 n3 (omega (arith, n, long, long_b)) (omega (arith, long)) h4 ∙ head_filled name b v3 is refl long_b ∙ ap (λ (l : List ℕ). name ++ (1 ∷ (l ++ replicate (1024 - 16) 0))) is_b
 
 pub number_form : (number : ℕ) (part : List ℕ) → number < 2 ^ 64 → number_of (page_form number part) ≡ number
 unfolding page_form
@@ -79,16 +73,12 @@ page_long number part small =
 
 pub head_long : (first : ℕ) → length (head_form first) ≡ 1024
 unfolding head_form
-head_long first = omega (arith, length-replicate {A = ℕ} (1024 - 24) 0)
+head_long first = omega (arith, length-replicate {A = ℕ} (1024 - 16) 0)
 
 pub head_says : (first : ℕ) → first < 2 ^ 64 → IsHead (head_form first) first
 unfolding head_form
-head_says first small =
-    let zeros : List ℕ = replicate (1024 - 24) 0 in
-    let number : List ℕ = to_be_bytes w64 first in
-    record {
-      named = refl;
-      version = refl;
-      begins = ap (λ (l : List ℕ). from_be_bytes w64 l) (take_at number (number ++ zeros) 8 refl) ∙ from_be_bytes-to_be_bytes_8 first small;
-      again = ap (λ (l : List ℕ). from_be_bytes w64 (take 8 l)) (drop_at number (number ++ zeros) 8 refl) ∙ ap (λ (l : List ℕ). from_be_bytes w64 l) (take_at number zeros 8 refl) ∙ from_be_bytes-to_be_bytes_8 first small;
-    }
+head_says first small = record {
+  named = refl;
+  version = refl;
+  begins = ap (λ (l : List ℕ). from_be_bytes w64 l) (take_at (to_be_bytes w64 first) (replicate (1024 - 16) 0) 8 refl) ∙ from_be_bytes-to_be_bytes_8 first small;
+}

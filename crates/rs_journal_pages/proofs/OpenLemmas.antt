@@ -4,13 +4,13 @@ use Rattle.std.proofs.lemmas.Bool.{cases_lt, cases_eq, cond-false, ne_eqb}
 use Rattle.std.proofs.lemmas.List.{get_or-take}
 use Rattle.sqlite_wal.specs.declared.error.Error.{Error}
 use Rattle.sqlite_wal.specs.declared.error.Error.TheVariants.{Io, OutOfMemory, Closed, NoSuchPage, Full, Corrupt, Exists}
-use Rattle.sqlite_wal.specs.Recovery.{Pages, Image, Recovers, AddsNothing, AreWhole, IsBlank, IsUnreadable, KeepsImage, only_page}
+use Rattle.sqlite_wal.specs.Recovery.{Pages, Image, Recovers, AreWhole, IsBlank, IsUnreadable, KeepsImage, only_page}
 use Rattle.sqlite_wal.specs.Files.{CreatesAtMost, RefusesToCreate, RefusesToRecover}
 use Rattle.sqlite_wal.specs.Outcome.{HasCause}
 use Rattle.sqlite_wal.specs.State.{State, Keeps, IsSettled}
 use Rattle.sqlite_wal.specs.Reads.{OnlyReadsBoth}
 use Rattle.sqlite_wal.proofs.LogLemmas.{SeenMayStay}
-use Rattle.sqlite_wal.proofs.StateLemmas.{AddsNothing-trans, open_from, ready_of}
+use Rattle.sqlite_wal.proofs.StateLemmas.{open_from, ready_of}
 use Rattle.sqlite_disk.specs.declared.Disk.{Ghosts}
 use Rattle.sqlite_pager.specs.declared.pager.Pager.{Pager}
 use Rattle.sqlite_pager.specs.Pager.{files, image, state, visible, IsClean as IsCleanPages}
@@ -18,11 +18,9 @@ use Rattle.sqlite_pager.proofs.PagerLemmas.{settled}
 use Rattle.sqlite_wal.proofs.CreateLemmas.{begun_is_not_blank}
 use Rattle.sqlite_wal.proofs.RecoveryLemmas.{recovers_once}
 use Rattle.sqlite_wal.proofs.ChangeLemmas.{HaveCount}
-use Rattle.rs_journal_pages.specs.Pages.{AreNumbered, HasStream, IsHead, head_form, number_in, number_of}
+use Rattle.rs_journal_pages.specs.Pages.{AreNumbered, HasStream, head_form, number_in, number_of}
 use Rattle.rs_journal_pages.specs.Images.{EachStandsForOne, StandsFor, Keeps as HasImage}
-use Rattle.rs_journal_pages.specs.declared.fault.OpenFault.{OpenFault}
-use Rattle.rs_journal_pages.specs.declared.fault.OpenFault.TheVariants.{Foreign, Version, Damaged, NoMemory, Disk}
-use Rattle.rs_journal_pages.specs.Opening.{AreWrong, Explains, IsRefusal, IsWrongHead, fault_of}
+use Rattle.rs_journal_pages.specs.Opening.{IsRefusal, fault_of}
 use Rattle.rs_journal_pages.proofs.FormLemmas.{head_long}
 use Rattle.rs_journal_pages.proofs.StreamLemmas.{fresh, one_stream, page_of_number, some_is}
 
@@ -156,52 +154,6 @@ pub not_unreadable : (image : Image) (stream : List ℕ) → ¬ IsBlank (head_fo
 not_unreadable image stream begun unreadable (inl blank) = begun blank.0
 not_unreadable image stream begun unreadable (inr has) = unreadable has.pages has.recovers has.whole
 
--- a page 1 that is wrong is none
-wrong_head : (fault : OpenFault) (page : List ℕ) (first : ℕ) → IsWrongHead fault page → ¬ IsHead page first
-wrong_head Foreign page first wrong head = wrong head.named
-wrong_head (Version n) page first wrong head = wrong.2 (sym wrong.1 ∙ head.version)
-wrong_head Damaged page first wrong head = wrong.2 first head
-wrong_head NoMemory page first wrong head = wrong
-wrong_head (Disk e) page first wrong head = wrong
-
--- and pages with it have no stream
-pub wrong_page : (fault : OpenFault) (pages : Pages) (page : List ℕ) → pages 1 ≡ Some page → IsWrongHead fault page → AreWrong fault pages page
-wrong_page Foreign pages page there wrong = wrong
-wrong_page (Version n) pages page there wrong = wrong
-wrong_page Damaged pages page there wrong =
-    (wrong.0, wrong.1, λ first count stream has. wrong.2 first (subst (λ (l : List ℕ). IsHead l first) (some_is has.head.bytes page (pages 1) has.head.there there) has.head.says))
-wrong_page NoMemory pages page there wrong = wrong
-wrong_page (Disk e) pages page there wrong = wrong
-
-pub wrong_pages : (fault : OpenFault) (pages : Pages) (page : List ℕ) → pages 1 ≡ Some page → AreWrong fault pages page → (first count : ℕ) (stream : List ℕ) → ¬ HasStream pages first count stream
-wrong_pages fault pages page there wrong first count stream has =
-    let says = subst (λ (l : List ℕ). IsHead l first) (some_is has.head.bytes page (pages 1) has.head.there there) has.head.says in
-    by fault wrong says
-  where
-    by : (f : OpenFault) → AreWrong f pages page → IsHead page first → ⊥
-    by Foreign wrong says = wrong says.named
-    by (Version n) wrong says = wrong.2 (sym wrong.1 ∙ says.version)
-    by Damaged wrong says = wrong.2 first count stream has
-    by NoMemory wrong says = wrong
-    by (Disk e) wrong says = wrong
-
--- why files are refused: those that were not recovered, and those that were
-pub not_recovered : (e : Error) (image : Image) → (e ≡ Corrupt → IsUnreadable 1024 image) → Explains (fault_of e) image
-not_recovered (Io e) image why = tt
-not_recovered OutOfMemory image why = tt
-not_recovered Closed image why = tt
-not_recovered NoSuchPage image why = tt
-not_recovered Full image why = tt
-not_recovered Corrupt image why = inl (why refl)
-not_recovered Exists image why = tt
-
-pub recovered_wrong : (fault : OpenFault) (image : Image) (pages : Pages) → Recovers 1024 image pages → (IsRefusal fault → (page : List ℕ) × (pages 1 ≡ Some page) × AreWrong fault pages page) → Explains fault image
-recovered_wrong Foreign image pages recovers why = let at = why tt in inr (record { pages = pages; recovers = recovers; page = at.0; there = at.1; wrong = at.2 })
-recovered_wrong (Version n) image pages recovers why = let at = why tt in record { pages = pages; recovers = recovers; page = at.0; there = at.1; wrong = at.2 }
-recovered_wrong Damaged image pages recovers why = let at = why tt in record { pages = pages; recovers = recovers; page = at.0; there = at.1; wrong = at.2 }
-recovered_wrong NoMemory image pages recovers why = tt
-recovered_wrong (Disk e) image pages recovers why = tt
-
 -- pages that have no stream stand for none
 pub not_without : (image : Image) (stream : List ℕ) (pages : Pages) → ¬ IsBlank (head_form 1) image → Recovers 1024 image pages → ((first count : ℕ) (s : List ℕ) → ¬ HasStream pages first count s)
     → ¬ StandsFor image stream
@@ -223,14 +175,6 @@ module _ {D : Type 0} {g : Ghosts D} where
   pub fewer_left : (old new : Pager D g) → OnlyReadsBoth g (files old) (files new) → (IsTrue (state new).is_clean → IsTrue (state old).is_clean) → (left : Image) → (state new).may_leave left
       → (state old).may_leave left
   fewer_left old new only honest left may = (honest may.0, (only.0.crash left.log may.1.0, only.1.crash left.db may.1.1))
-
-  -- a call that adds no outcome, and reads behind it
-  pub along_reads : (old mid new : Pager D g) → (state old).page_size ≡ 1024 → (state mid).page_size ≡ (state old).page_size → AddsNothing (state old).page_size (state old).may_leave (state mid).may_leave
-      → Keeps (state mid) (state new) → AddsNothing 1024 (state old).may_leave (state new).may_leave
-  along_reads old mid new size same adds keeps =
-      AddsNothing-trans 1024 (state old).may_leave (state mid).may_leave (state new).may_leave
-      (subst (λ (n : ℕ). AddsNothing n (state old).may_leave (state mid).may_leave) size adds)
-      (subst (λ (n : ℕ). AddsNothing n (state mid).may_leave (state new).may_leave) (same ∙ size) keeps.crash)
 
   -- after an attempt to make page 1
   pub each_created : (old new : Pager D g) (first : List ℕ) (streams : List (List ℕ)) → SeenMayStay g → (state old).page_size ≡ 1024 → first ≡ head_form 1

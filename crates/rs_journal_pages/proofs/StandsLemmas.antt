@@ -5,15 +5,15 @@ use Rattle.sqlite_disk.specs.declared.Disk.{Ghosts}
 use Rattle.sqlite_wal.specs.Recovery.{Pages, Image, Recovers, RecoversAs, AddsNothing, AreWhole}
 use Rattle.sqlite_wal.specs.State.{Keeps, MayCommit}
 use Rattle.sqlite_wal.proofs.LogLemmas.{SeenMayStay}
-use Rattle.sqlite_wal.proofs.StateLemmas.{AddsNothing-fewer, AddsNothing-trans, clean_of, open_from, ready_of, Keeps-refl, Keeps-trans}
+use Rattle.sqlite_wal.proofs.StateLemmas.{AddsNothing-trans, clean_of, open_from, ready_of, Keeps-refl, Keeps-trans}
 use Rattle.sqlite_pager.specs.declared.pager.Pager.{Pager}
-use Rattle.sqlite_pager.specs.Pager.{files, state, visible, page_count as pages_of, IsClean as IsCleanPages}
+use Rattle.sqlite_pager.specs.Pager.{state, visible, page_count as pages_of, IsClean as IsCleanPages}
 use Rattle.sqlite_pager.proofs.PagerLemmas.{settled, visible_counted, visible_whole}
 use Rattle.rs_journal_pages.specs.declared.extent.Extent.{Extent}
 use Rattle.rs_journal_pages.specs.declared.stream.PageStream.{PageStream}
 use Rattle.rs_journal_pages.specs.Pages.{HasStream, IsHead, PutsPage, head_form, number_of, page_form, part_of}
 use Rattle.rs_journal_pages.specs.Images.{Keeps as HasImage}
-use Rattle.rs_journal_pages.specs.Streams.{GoesOn, StaysClosed, may_leave, front, IsClean, IsOpen, IsSound, Stands, Holds, Rests}
+use Rattle.rs_journal_pages.specs.Streams.{GoesOn, may_leave, front, IsClean, IsOpen, IsSound, Stands, Holds, Rests}
 use Rattle.rs_journal_pages.proofs.FormLemmas.{head_long, head_says, number_form, part_form}
 use Rattle.rs_journal_pages.proofs.StreamLemmas.{begins_anew, counted, grows}
 
@@ -92,16 +92,13 @@ module _ {D : Type 0} {g : Ghosts D} where
   pub adds_none : (old new : PageStream D g) → GoesOn old new → AddsNothing 1024 (may_leave old) (may_leave new)
   adds_none old new on = adds_nothing old new.pager on.keeps
 
-  -- nothing was done with a closed one
-  pub closed_same : (old new : PageStream D g) → new.pager ≡ old.pager → ¬ IsOpen old → StaysClosed old new
-  closed_same old new pager shut = record {
-    closed = λ h. shut (subst (λ (p : Pager D g). IsTrue (state p).is_ready) pager h);
-    files = ap (λ (p : Pager D g). files p) pager;
-    outcomes = subst (λ (p : Pager D g). AddsNothing 1024 (may_leave old) (state p).may_leave) (sym pager) (AddsNothing-fewer 1024 (may_leave old) (may_leave old) (λ left may. may));
-  }
-
-  pub closed_trans : (a b c : PageStream D g) → StaysClosed a b → StaysClosed b c → StaysClosed a c
-  closed_trans a b c s t = record { closed = t.closed; files = t.files ∙ s.files; outcomes = AddsNothing-trans 1024 (may_leave a) (may_leave b) (may_leave c) s.outcomes t.outcomes }
+  -- a commit of what is closed
+  pub closed_commit : (old mid : PageStream D g) (new : Pager D g) → GoesOn old mid → MayCommit (state mid.pager) (visible mid.pager) (state new) → ¬ IsOpen old → AddsNothing 1024 (may_leave old) (state new).may_leave
+  closed_commit old mid new on commits shut =
+      AddsNothing-trans 1024 (may_leave old) (may_leave mid) (state new).may_leave (adds_none old mid on) (λ left may. elim (commits.crash left may) [
+        | inl before ↦ (before.0, before.1, subst (λ (n : ℕ). RecoversAs n before.0 left) mid.sized before.2)
+        | inr after ↦ absurd (shut (was_ready old mid on (ready_of (state mid.pager) after.0)))
+      ])
 
   -- after a rollback
   pub rests_back : (old new : PageStream D g) (standing : List ℕ) → Keeps (state old.pager) (state new.pager) → (IsSound old → IsCleanPages new.pager) → new.standing ≡ old.standing → new.seen ≡ new.standing

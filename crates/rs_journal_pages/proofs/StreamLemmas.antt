@@ -1,7 +1,6 @@
 -- Streams of pages: a page more, a new beginning, and one reading.
-use Rattle.std.proofs.Common.{◌≡◌, inl, inr, ℕ, zero, suc, ◌+◌, ◌-◌, ◌<◌, ◌≤◌, ◌==◌, List, [], ◌++◌, length, Option, Some, None, is_some, refl, sym, ap, subst, ◌∙◌, arith, add-one, append_assoc, lit<}
+use Rattle.std.proofs.Common.{◌≡◌, inl, inr, ℕ, zero, suc, ◌+◌, ◌-◌, ◌<◌, ◌≤◌, ◌==◌, List, [], ◌++◌, length, Option, Some, None, is_some, refl, sym, ap, subst, ◌∙◌, arith, add-one, lit<}
 use Rattle.std.proofs.lemmas.Bool.{cases_lt, cases_eq, cond-false, ne_eqb}
-use Rattle.std.proofs.lemmas.List.{append-nil}
 use Rattle.sqlite_wal.specs.Recovery.{Pages, only_page}
 use Rattle.sqlite_wal.proofs.ChangeLemmas.{HaveCount}
 use Rattle.rs_journal_pages.specs.Pages.{AreNumbered, HasHead, HasStream, IsHead, PutsPage, joined, head_form, number_in, number_of, part_in, part_of}
@@ -23,15 +22,6 @@ joined_same pages new (suc n) same =
 
 pub joined_more : (pages : Pages) (n : ℕ) → joined pages (n + 1) ≡ joined pages n ++ part_in (pages (n + 2))
 joined_more pages n = ap (joined pages) (add-one n)
-
--- the parts of fewer pages are at the front
-pub joined_behind : (pages : Pages) (n k : ℕ) → (rest : List ℕ) × (joined pages (n + k) ≡ joined pages n ++ rest)
-joined_behind pages n zero = let same : n + 0 ≡ n = omega arith in ([], ap (joined pages) same ∙ sym (append-nil (joined pages n)))
-joined_behind pages n (suc k) =
-    let more = joined_behind pages n k in
-    let same : n + suc k ≡ suc (n + k) = omega arith in
-    let last : List ℕ = part_in (pages (n + k + 2)) in
-    (more.0 ++ last, ap (joined pages) same ∙ ap (λ (l : List ℕ). l ++ last) more.1 ∙ append_assoc (joined pages n) more.0 last)
 
 pub grows : (pages new : Pages) (first count : ℕ) (stream page : List ℕ) → HasStream pages first count stream → PutsPage pages (count + 2) page new
     → number_of page ≡ first + count → HasStream new first (count + 1) (stream ++ part_of page)

@@ -12,13 +12,9 @@ pub record Keeps (image : Image) (stream : List ℕ) : Type 0 where
   pub whole : AreWhole page_size pages
   pub has : HasStream pages first count stream
 
--- nothing has been made of the files yet
-abbrev pub IsUnmade : Image → Type 0
-IsUnmade image = IsBlank (head_form 1) image
-
 -- The files stand for this stream: they have it, or nothing has been made of them yet, and it is empty.
 abbrev pub StandsFor : Image → List ℕ → Type 0
-StandsFor image stream = (IsUnmade image × (stream ≡ [])) ⊎ Keeps image stream
+StandsFor image stream = (IsBlank (head_form 1) image × (stream ≡ [])) ⊎ Keeps image stream
 
 -- each of these outcomes of a crash stands for this stream
 abbrev pub AllStandFor : (Image → Type 0) → List ℕ → Type 0

@@ -16,15 +16,14 @@ part_size = 1014
 abbrev pub name : List ℕ
 name = 0x72 ∷ 0x73 ∷ 0x74 ∷ 0x6f ∷ 0x72 ∷ 0x65 ∷ 0x64 ∷ []
 
--- the name, the version of the form, and the number of the first page of the stream, twice
+-- the name, the version of the form, and the number of the first page of the stream
 pub record IsHead (page : List ℕ) (first : ℕ) : Type 0 where
   pub named : take 7 page ≡ name
   pub version : slice_index page 7 ≡ 1
   pub begins : from_be_bytes w64 (take 8 (drop 8 page)) ≡ first
-  pub again : from_be_bytes w64 (take 8 (drop 16 page)) ≡ first
 
 unfoldable pub head_form : ℕ → List ℕ
-head_form first = name ++ (1 ∷ (to_be_bytes w64 first ++ (to_be_bytes w64 first ++ replicate (page_size - 24) 0)))
+head_form first = name ++ (1 ∷ (to_be_bytes w64 first ++ replicate (page_size - 16) 0))
 
 -- ---- the pages behind it
 

@@ -3,7 +3,7 @@ use Rattle.std.specs.Prelude.{◌≡◌, ℕ, ◌+◌, List, [], ◌++◌, IsTru
 use Rattle.sqlite_disk.specs.declared.Disk.{Ghosts}
 use Rattle.sqlite_wal.specs.Recovery.{Image, AddsNothing}
 use Rattle.sqlite_wal.specs.State.{Keeps as KeepsState}
-use Rattle.sqlite_pager.specs.Pager.{files, state, visible, log_frames, image as pages_image, AreUsable as AreUsablePages, HasSpilled as HasSpilledPages}
+use Rattle.sqlite_pager.specs.Pager.{files, state, visible, image as pages_image, AreUsable as AreUsablePages}
 use Rattle.rs_journal_pages.specs.declared.stream.PageStream.{PageStream}
 use Rattle.rs_journal_pages.specs.Pages.{HasStream, joined, page_size, part_in}
 use Rattle.rs_journal_pages.specs.Images.{Keeps}
@@ -41,14 +41,6 @@ module _ {D : Type 0} {g : Ghosts D} where
   abbrev pub page_count : PageStream D g → ℕ
   page_count it = it.seen.count
 
-  -- how many pages the log has
-  abbrev pub log_len : PageStream D g → ℕ
-  log_len it = log_frames it.pager
-
-  -- some of the pages in the log are not committed
-  abbrev pub HasSpilled : PageStream D g → Type 0
-  HasSpilled it = HasSpilledPages it.pager
-
   -- what a page of the stream that is seen has of it
   abbrev pub part_at : PageStream D g → ℕ → List ℕ
   part_at it index = part_in (visible it.pager (index + 2))
@@ -72,12 +64,6 @@ module _ {D : Type 0} {g : Ghosts D} where
   -- each new outcome of a crash stands for what an old one stands for
   abbrev pub AddsNoOutcome : PageStream D g → PageStream D g → Type 0
   AddsNoOutcome old new = AddsNothing page_size (may_leave old) (may_leave new)
-
-  -- it stays closed, and the files are not touched
-  pub record StaysClosed (old new : PageStream D g) : Type 0 where
-    pub closed : ¬ IsOpen new
-    pub files : files_of new ≡ files_of old
-    pub outcomes : AddsNoOutcome old new
 
 -- This stream stands: it is what was committed, and a crash leaves it and nothing else.
 pub record HasCommitted {D : Type 0} {g : Ghosts D} (it : PageStream D g) (standing : List ℕ) : Type 0 where

@@ -1,9 +1,7 @@
 //! The bytes of a page.
 
-ghost use Rattle.std.specs.Prelude.{◌≡◌, ◌<◌, ◌≤◌, ◌^◌, length, take, IfOk, IfErr, OnOk};
-ghost use Rattle.std.specs.Int.{w64, from_be_bytes};
+ghost use Rattle.std.specs.Prelude.{◌≡◌, ◌<◌, ◌≤◌, ◌^◌, ℕ, length, IfOk, OnOk, OnErr};
 ghost use Rattle.rs_journal_pages.specs.Pages.{IsHead, head_form, number_of, page_form, page_size, part_of, part_size};
-ghost use Rattle.rs_journal_pages.specs.Opening.{IsWrongHead};
 
 use crate::fault::OpenFault;
 use std::alloc::AllocError;
@@ -34,8 +32,7 @@ pub(crate) fn form_page(page: &mut Vec<u8>, number: u64, part: &[u8]) -> Result<
     Ok(())
 }
 
-/// Makes `page` the page 1 of a stream whose first page has this number. The number stands there twice, since old pages would count if it
-/// alone were damaged.
+/// Makes `page` the page 1 of a stream whose first page has this number.
 pub(crate) fn form_head(page: &mut Vec<u8>, first: u64) -> Result<(), AllocError>
     ensures form { OnOk result (page.new.items ≡ head_form first) }
     ensures range { first < 2 ^ 64 }
@@ -44,20 +41,8 @@ pub(crate) fn form_head(page: &mut Vec<u8>, first: u64) -> Result<(), AllocError
     page.extend_from_slice(&NAME)?;
     page.push(VERSION)?;
     page.extend_from_slice(&first.to_be_bytes())?;
-    page.extend_from_slice(&first.to_be_bytes())?;
     page.resize(PAGE_SIZE, 0)?;
     Ok(())
-}
-
-/// The number that these bytes begin with.
-fn read_number(bytes: &[u8]) -> u64
-    requires { 8 ≤ length bytes.now }
-    ensures { result ≡ from_be_bytes w64 (take 8 bytes.now) }
-{
-    let (front, _) = bytes.split_at(8);
-    u64::from_be_bytes([
-        front[0], front[1], front[2], front[3], front[4], front[5], front[6], front[7],
-    ])
 }
 
 /// The number of a page, and its part of the stream.
@@ -66,18 +51,21 @@ pub(crate) fn read_page(page: &[u8]) -> (u64, &[u8])
     ensures number { result.0 ≡ number_of page.now }
     ensures part { result.1.now ≡ part_of page.now }
 {
-    let (_, rest) = page.split_at(8);
+    let (front, rest) = page.split_at(8);
     let (len, rest) = rest.split_at(2);
+    let number = u64::from_be_bytes([
+        front[0], front[1], front[2], front[3], front[4], front[5], front[6], front[7],
+    ]);
     let len = u16::from_be_bytes([len[0], len[1]]) as usize;
     let (part, _) = rest.split_at(len.min(rest.len()));
-    (read_number(page), part)
+    (number, part)
 }
 
 /// The number that page 1 says the stream begins with.
 pub(crate) fn read_head(page: &[u8]) -> Result<u64, OpenFault>
     requires { length page.now ≡ page_size }
     ensures ok { IfOk result (λ first. IsHead page.now first) }
-    ensures err { IfErr result (λ e. IsWrongHead e page.now) }
+    ensures err { OnErr result ((first : ℕ) → ¬ IsHead page.now first) }
 {
     let (name, rest) = page.split_at(7);
     if name != NAME.as_slice() {
@@ -86,11 +74,8 @@ pub(crate) fn read_head(page: &[u8]) -> Result<u64, OpenFault>
     if rest[0] != VERSION {
         return Err(OpenFault::Version(rest[0]));
     }
-    let (_, behind) = page.split_at(8);
-    let (_, again) = page.split_at(16);
-    let first = read_number(behind);
-    if read_number(again) != first {
-        return Err(OpenFault::Damaged);
-    }
-    Ok(first)
+    let (first, _) = rest[1..].split_at(8);
+    Ok(u64::from_be_bytes([
+        first[0], first[1], first[2], first[3], first[4], first[5], first[6], first[7],
+    ]))
 }

@@ -2,17 +2,17 @@
 
 ghost use Rattle.std.specs.Prelude.{◌≡◌, ◌≢◌, ◌⊎◌, ◌+◌, ◌-◌, ◌^◌, ◌<◌, ◌≤◌, ℕ, List, length, Some, None, Ok, Err, true, false, IsTrue, IfSome, IfOk, IfErr, OnOk};
 ghost use Rattle.sqlite_wal.specs.Reads.{OnlyReadsBoth};
-ghost use Rattle.sqlite_wal.specs.Recovery.{AddsNothing, IsBlank, only_page};
+ghost use Rattle.sqlite_wal.specs.Recovery.{IsBlank, only_page};
 ghost use Rattle.sqlite_wal.specs.State.{Keeps};
 ghost use Rattle.sqlite_pager.specs.Pager.{files, state, visible, image as pages_image, AreUsable as AreUsablePages, IsClean as IsCleanPages};
 ghost use Rattle.rs_journal_pages.specs.Pages.{page_size, head_form, joined, AreNumbered, HasStream};
-ghost use Rattle.rs_journal_pages.specs.Images.{EachStandsForOne, IsUnmade, StandsFor};
-ghost use Rattle.rs_journal_pages.specs.Opening.{AreWrong, Explains, IsRefusal};
+ghost use Rattle.rs_journal_pages.specs.Images.{EachStandsForOne, StandsFor};
+ghost use Rattle.rs_journal_pages.specs.Opening.{IsRefusal};
 
 use crate::extent::Extent;
 use crate::fault::{OpenFault, fault_from};
 use crate::form::{form_head, read_head, read_page};
-use crate::stream::{LONG_LOG, PageStream};
+use crate::stream::PageStream;
 use sqlite_disk::Disk;
 use sqlite_pager::{Error, Pager};
 
@@ -29,7 +29,6 @@ fn make_pages<D: Disk>(pager: &mut Pager<D>, first: &[u8]) -> Result<bool, Error
     ensures kind { result ≢ Err Error.Corrupt }
     ensures honest { IsTrue (state pager.new).is_clean → IsTrue (state pager.old).is_clean }
     ensures size { (state pager.new).page_size ≡ (state pager.old).page_size }
-    ensures untouched { ¬ IsUnmade (pages_image pager.old) → AddsNothing page_size (state pager.old).may_leave (state pager.new).may_leave }
     ensures crash { (streams : List (List ℕ)) → EachStandsForOne (state pager.old).may_leave streams → EachStandsForOne (state pager.new).may_leave streams }
 {
     match pager.create(first) {
@@ -83,7 +82,7 @@ fn count_pages<D: Disk>(pager: &mut Pager<D>, first: u64) -> Result<Option<u32>,
 fn find_extent<D: Disk>(pager: &mut Pager<D>) -> Result<Extent, OpenFault>
     requires { (state pager.old).page_size ≡ page_size }
     ensures found { IfOk result (λ e. IsTrue (state pager.new).is_clean → IsCleanPages pager.old → HasStream (visible pager.old) e.first e.count (joined (visible pager.old) e.count)) }
-    ensures refused { IfErr result (λ e. IsRefusal e → IsTrue (state pager.new).is_clean → (page : List ℕ) × (visible pager.old 1 ≡ Some page) × AreWrong e (visible pager.old) page) }
+    ensures refused { IfErr result (λ e. IsRefusal e → IsTrue (state pager.new).is_clean → (first count : ℕ) (stream : List ℕ) → ¬ HasStream (visible pager.old) first count stream) }
     ensures keeps { Keeps (state pager.old) (state pager.new) }
     ensures open { (state pager.new).is_ready ≡ (state pager.old).is_ready }
     ensures pages { visible pager.new ≡ visible pager.old }
@@ -110,8 +109,6 @@ fn recover_extent<D: Disk>(pager: &mut Pager<D>) -> Result<Extent, OpenFault>
     ensures clean { IfOk result (λ _. IsTrue (state pager.new).is_clean → IsCleanPages pager.new) }
     ensures found { IfOk result (λ e. IsTrue (state pager.new).is_clean → StandsFor (pages_image pager.old) (joined (visible pager.new) e.count) × HasStream (visible pager.new) e.first e.count (joined (visible pager.new) e.count)) }
     ensures refused { IfErr result (λ e. IsRefusal e → IsTrue (state pager.new).is_clean → (stream : List ℕ) → ¬ StandsFor (pages_image pager.old) stream) }
-    ensures named { IfErr result (λ e. IsTrue (state pager.new).is_clean → Explains e (pages_image pager.old)) }
-    ensures untouched { AddsNothing page_size (state pager.old).may_leave (state pager.new).may_leave }
     ensures honest { IsTrue (state pager.new).is_clean → IsTrue (state pager.old).is_clean }
     ensures size { (state pager.new).page_size ≡ (state pager.old).page_size }
     ensures crash { (streams : List (List ℕ)) → EachStandsForOne (state pager.old).may_leave streams → EachStandsForOne (state pager.new).may_leave streams }
@@ -134,8 +131,6 @@ fn open_extent<D: Disk>(pager: &mut Pager<D>, first: &[u8]) -> Result<Extent, Op
     ensures clean { IfOk result (λ _. IsTrue (state pager.new).is_clean → IsCleanPages pager.new) }
     ensures found { IfOk result (λ e. IsTrue (state pager.new).is_clean → StandsFor (pages_image pager.old) (joined (visible pager.new) e.count) × HasStream (visible pager.new) e.first e.count (joined (visible pager.new) e.count)) }
     ensures refused { IfErr result (λ e. IsRefusal e → IsTrue (state pager.new).is_clean → (stream : List ℕ) → ¬ StandsFor (pages_image pager.old) stream) }
-    ensures named { IfErr result (λ e. IsTrue (state pager.new).is_clean → Explains e (pages_image pager.old)) }
-    ensures untouched { ¬ IsUnmade (pages_image pager.old) → AddsNothing page_size (state pager.old).may_leave (state pager.new).may_leave }
     ensures size { (state pager.new).page_size ≡ (state pager.old).page_size }
     ensures crash { (streams : List (List ℕ)) → EachStandsForOne (state pager.old).may_leave streams → EachStandsForOne (state pager.new).may_leave streams }
 {
@@ -150,17 +145,14 @@ fn open_extent<D: Disk>(pager: &mut Pager<D>, first: &[u8]) -> Result<Extent, Op
 }
 
 impl<D: Disk> PageStream<D> {
-    ghost use Rattle.rs_journal_pages.specs.Streams.{may_leave, image, AddsNoOutcome, AreUsable, IsClean, IsOpen, Rests};
+    ghost use Rattle.rs_journal_pages.specs.Streams.{may_leave, image, AreUsable, IsClean, IsOpen, Rests};
 
-    /// Finds the stream that the files stand for, or makes them. A crash on the way leaves what they stood for. Files in which anything
-    /// was made keep it, whatever comes of this.
+    /// Finds the stream that the files stand for, or makes them. A crash on the way leaves what they stood for.
     pub fn open(&mut self) -> Result<(), OpenFault>
         requires { AreUsable self.old }
         ensures found { OnOk result ((stream : List ℕ) × (IsClean self.new → StandsFor (image self.old) stream) × Rests self.new stream) }
         ensures open { OnOk result (IsOpen self.new) }
         ensures refused { IfErr result (λ e. IsRefusal e → IsClean self.new → (stream : List ℕ) → ¬ StandsFor (image self.old) stream) }
-        ensures named { IfErr result (λ e. IsClean self.new → Explains e (image self.old)) }
-        ensures untouched { ¬ IsUnmade (image self.old) → AddsNoOutcome self.old self.new }
         ensures crash { (streams : List (List ℕ)) → EachStandsForOne (may_leave self.old) streams → EachStandsForOne (may_leave self.new) streams }
     {
         form_head(&mut self.page, 1)?;
@@ -169,7 +161,6 @@ impl<D: Disk> PageStream<D> {
                 self.standing = extent;
                 self.seen = extent;
                 self.tail.clear();
-                self.logged = LONG_LOG;
                 Ok(())
             }
             Err(fault) => Err(fault),

@@ -12,9 +12,6 @@ use sqlite_disk::{Disk, Files};
 use sqlite_pager::{Error, Options, PageSize, Pager};
 use std::alloc::{AllocFailed, Global};
 
-/// So many pages in the log are a reason to copy them: they take some ten milliseconds.
-pub(crate) const LONG_LOG: u32 = 4000;
-
 /// A stream of bytes in two files. What is pushed is seen at once, and stands from the commit on.
 #[derive(Drop)]
 pub struct PageStream<D: Disk> {
@@ -27,8 +24,6 @@ pub struct PageStream<D: Disk> {
     pub(crate) tail: Vec<u8>,
     /// Where a page is formed.
     pub(crate) page: Vec<u8>,
-    /// How many pages went to the log since it was copied, or `LONG_LOG` while that is not known.
-    pub(crate) logged: u32,
     ghost sized: { (state pager).page_size ≡ page_size },
     ghost short: { length tail.items ≤ part_size },
 }
@@ -52,7 +47,7 @@ fn put_page<D: Disk>(pager: &mut Pager<D>, at: u32, page: &[u8]) -> Result<(), E
 
 impl<D: Disk> PageStream<D> {
     ghost use Rattle.rs_journal_pages.specs.Images.{Keeps as HasImage};
-    ghost use Rattle.rs_journal_pages.specs.Streams.{files_of, may_leave, image, page_count, AreUsable, IsClean, IsOpen, IsSound, AddsNoOutcome, GoesOn, HasSpilled, log_len, part_at, SameParts, Stands, Holds, Rests, StaysClosed};
+    ghost use Rattle.rs_journal_pages.specs.Streams.{files_of, may_leave, image, AreUsable, IsClean, IsOpen, IsSound, AddsNoOutcome, GoesOn, part_at, SameParts, Stands, Holds, Rests};
 
     /// A stream over these files, which [`open`](PageStream::open) has to read first.
     pub fn new(
@@ -62,15 +57,12 @@ impl<D: Disk> PageStream<D> {
     ) -> Result<PageStream<D>, AllocFailed<Files<D>>>
         requires { IsTrue (D.Disk.is_usable files.log) × IsTrue (D.Disk.is_usable files.db) }
         ensures back { IfErr result (λ e. e.value ≡ files) }
-        ensures over { IfOk result (λ it. files_of it ≡ (files.log, files.db)) }
         ensures usable { IfOk result AreUsable }
-        ensures closed { IfOk result (λ it. ¬ IsOpen it) }
     {
-        // No commit copies the log by itself: whoever lets the files be synced only now and then has to choose the moment.
         let options = Options {
             cache_pages: 16,
             spill_pages: 1000,
-            checkpoint_frames: usize::MAX,
+            checkpoint_frames: 4000,
             seed,
         };
         let size = PageSize::new(PAGE_SIZE).unwrap();
@@ -82,7 +74,6 @@ impl<D: Disk> PageStream<D> {
             seen: nothing,
             tail: Vec::new(alloc),
             page: Vec::new(alloc),
-            logged: LONG_LOG,
         })
     }
 
@@ -96,7 +87,6 @@ impl<D: Disk> PageStream<D> {
             seen: _,
             tail: _,
             page: _,
-            logged: _,
         } = self;
         pager.close()
     }
@@ -110,22 +100,15 @@ impl<D: Disk> PageStream<D> {
 
     /// How many pages the stream takes.
     pub fn page_count(&self) -> u32
-        ensures { result ≡ page_count self.now }
+        ensures { result ≡ self.now.seen.count }
     {
         self.seen.count
-    }
-
-    /// Whether the log has grown so long that a [`checkpoint`](PageStream::checkpoint) is due. True after an opening, since the log may
-    /// be long from before.
-    pub fn is_log_long(&self) -> bool {
-        self.logged >= LONG_LOG
     }
 
     /// Forgets what was pushed since the last commit.
     pub fn rollback(&mut self)
         ensures rests { (standing : List ℕ) → Stands self.old standing → Rests self.new standing }
         ensures open { IsOpen self.new ↔ IsOpen self.old }
-        ensures closed { ¬ IsOpen self.old → StaysClosed self.old self.new }
         ensures crash { AddsNoOutcome self.old self.new }
     {
         self.pager.rollback();
@@ -144,7 +127,6 @@ impl<D: Disk> PageStream<D> {
         };
         form_page(&mut self.page, number, &self.tail)?;
         put_page(&mut self.pager, at, &self.page)?;
-        self.logged = self.logged.saturating_add(1);
         self.seen.count += 1;
         self.tail.clear();
         Ok(())
@@ -189,7 +171,6 @@ impl<D: Disk> PageStream<D> {
     /// Pushes these bytes. At an error some of them are pushed.
     fn push_all(&mut self, bytes: &[u8]) -> Result<(), Error>
         ensures open { OnOk result (IsOpen self.old) }
-        ensures closed { ¬ IsOpen self.old → StaysClosed self.old self.new }
         ensures pushed { OnOk result ((standing seen : List ℕ) → Holds self.old standing seen → Holds self.new standing (seen ++ bytes.now)) }
         ensures goes_on { GoesOn self.old self.new }
     {
@@ -205,7 +186,6 @@ impl<D: Disk> PageStream<D> {
     /// Adds these bytes to what is seen. At an error what was pushed since the last commit is forgotten. A closed stream refuses them.
     pub fn push(&mut self, bytes: &[u8]) -> Result<(), Error>
         ensures open { OnOk result (IsOpen self.old) }
-        ensures closed { ¬ IsOpen self.old → StaysClosed self.old self.new }
         ensures pushed { OnOk result ((standing seen : List ℕ) → Holds self.old standing seen → Holds self.new standing (seen ++ bytes.now)) }
         ensures refused { OnErr result ((standing seen : List ℕ) → Holds self.old standing seen → Rests self.new standing) }
         ensures crash { AddsNoOutcome self.old self.new }
@@ -223,10 +203,8 @@ impl<D: Disk> PageStream<D> {
     fn put_head(&mut self) -> Result<(), Error>
         ensures begun { OnOk result ((standing : List ℕ) → Rests self.old standing → Holds self.new standing []) }
         ensures open { OnOk result (IsOpen self.new) }
-        ensures closed { ¬ IsOpen self.old → StaysClosed self.old self.new }
         ensures goes_on { GoesOn self.old self.new }
     {
-        self.check_open()?;
         let Some(first) = self.standing.next_number() else {
             return Err(Error::Full);
         };
@@ -240,7 +218,6 @@ impl<D: Disk> PageStream<D> {
     /// last commit is forgotten. A closed stream refuses it.
     pub fn begin_anew(&mut self) -> Result<(), Error>
         ensures open { OnOk result (IsOpen self.old) }
-        ensures closed { ¬ IsOpen self.old → StaysClosed self.old self.new }
         ensures begun { OnOk result ((standing seen : List ℕ) → Holds self.old standing seen → Holds self.new standing []) }
         ensures refused { OnErr result ((standing seen : List ℕ) → Holds self.old standing seen → Rests self.new standing) }
         ensures crash { AddsNoOutcome self.old self.new }
@@ -270,12 +247,11 @@ impl<D: Disk> PageStream<D> {
     /// Puts the tail and commits. At an error the transaction goes on.
     fn commit_all(&mut self) -> Result<(), Error>
         ensures open { OnOk result (IsOpen self.old) }
-        ensures closed { ¬ IsOpen self.old → StaysClosed self.old self.new }
+        ensures closed { ¬ IsOpen self.old → AddsNoOutcome self.old self.new }
         ensures done { OnOk result ((standing seen : List ℕ) → Holds self.old standing seen → Rests self.new seen) }
         ensures stands { OnErr result (IsOpen self.new → (standing seen : List ℕ) → Holds self.old standing seen → Stands self.new standing) }
         ensures crash { (standing seen : List ℕ) → Holds self.old standing seen → (left : Image) → may_leave self.new left → HasImage left standing ⊎ HasImage left seen }
     {
-        self.check_open()?;
         if let Err(error) = self.flush() {
             return Err(error);
         }
@@ -287,10 +263,10 @@ impl<D: Disk> PageStream<D> {
     }
 
     /// Makes what is seen the stream that stands. At an error that leaves it open, what was pushed is forgotten, and no crash brings it
-    /// back. At one that closes it, a crash leaves the one or the other. A closed stream refuses it, and does not touch the files.
+    /// back. At one that closes it, a crash leaves the one or the other. A closed stream refuses it, and no crash leaves more than before.
     pub fn commit(&mut self) -> Result<(), Error>
         ensures open { OnOk result (IsOpen self.old) }
-        ensures closed { ¬ IsOpen self.old → StaysClosed self.old self.new }
+        ensures closed { ¬ IsOpen self.old → AddsNoOutcome self.old self.new }
         ensures done { OnOk result ((standing seen : List ℕ) → Holds self.old standing seen → Rests self.new seen) }
         ensures refused { OnErr result (IsOpen self.new → (standing seen : List ℕ) → Holds self.old standing seen → Rests self.new standing) }
         ensures crash { (standing seen : List ℕ) → Holds self.old standing seen → (left : Image) → may_leave self.new left → HasImage left standing ⊎ HasImage left seen }
@@ -304,25 +280,14 @@ impl<D: Disk> PageStream<D> {
         }
     }
 
-    /// Copies what is committed from the log into the file of pages, and empties the log. No commit does so by itself, so call this while
-    /// nothing waits and [`is_log_long`](PageStream::is_log_long). What was pushed since the last commit stays; if some of it is in the log
-    /// already, nothing is copied. A closed stream refuses it.
+    /// Copies what is committed from the log into the file of pages, so that the next commit begins the log anew. A commit that finds the
+    /// log long does so by itself.
     pub fn checkpoint(&mut self) -> Result<(), Error>
-        ensures open { OnOk result (IsOpen self.old) }
-        ensures closed { ¬ IsOpen self.old → StaysClosed self.old self.new }
-        ensures copied { OnOk result (¬ HasSpilled self.old → log_len self.new ≡ 0) }
         ensures holds { (standing seen : List ℕ) → Holds self.old standing seen → Holds self.new standing seen }
         ensures rests { (standing : List ℕ) → Rests self.old standing → Rests self.new standing }
         ensures crash { AddsNoOutcome self.old self.new }
     {
-        self.check_open()?;
-        match self.pager.checkpoint() {
-            Ok(()) => {
-                self.logged = 0;
-                Ok(())
-            }
-            Err(error) => Err(error),
-        }
+        self.pager.checkpoint()
     }
 
     /// Appends to `out` what a page of the stream has of it.
@@ -330,7 +295,6 @@ impl<D: Disk> PageStream<D> {
         ensures read { OnOk result (IsClean self.new → out.new.items ≡ out.old.items ++ part_at self.old index) }
         ensures rests { (standing : List ℕ) → Rests self.old standing → Rests self.new standing }
         ensures same { SameParts self.old self.new }
-        ensures crash { AddsNoOutcome self.old self.new }
     {
         let Some(at) = index.checked_add(2) else {
             return Err(Error::NoSuchPage);

@@ -1,5 +1,4 @@
 pub mod Adding
-pub mod Bytes
 pub mod Entries
 pub mod Expiring
 pub mod Histories

@@ -1,5 +1,4 @@
 pub mod Adding
-pub mod Bytes
 pub mod Codes
 pub mod Contents
 pub mod Expiring

@@ -4,7 +4,6 @@
 
 mod messages;
 mod root;
-mod totals;
 mod tree;
 
 pub use messages::TreeMessages;

@@ -14,4 +14,3 @@ pub mod Parting
 pub mod Sent
 pub mod Stems
 pub mod Under
-pub mod Weighing

@@ -10,4 +10,3 @@ pub mod Messages
 pub mod Rests
 pub mod Spots
 pub mod Sweeping
-pub mod Weights

@@ -1,5 +1,4 @@
 pub mod HistoryRule
-pub mod Memory
 pub mod Origins
 pub mod Prefixes
 pub mod Sent

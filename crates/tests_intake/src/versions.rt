@@ -31,28 +31,6 @@ fn a_refused_put_makes_no_entry(rt: HostRuntime) -> Result<(), Fail> {
     check_steps(&rt, alloc, blank(alloc, 1, 2)?, &steps)
 }
 
-/// Serials beyond 2^24, and about 2^32 and 2^64, which no run counts up to. Each place has its own.
-#[test]
-fn serials_rise_up_to_the_last(rt: HostRuntime) -> Result<(), Fail> {
-    let alloc = rt.alloc();
-    let steps = [
-        Step::Put(Change::Set(1, 0x0100_0001, b'a', 0, None), (1, 0)),
-        Step::Put(Change::Set(1, 0xFFFF_FFFF, b'b', 0, None), (2, 0)),
-        Step::Put(Change::Set(1, 0x1_0000_0000, b'c', 0, None), (3, 0)),
-        Step::Put(Change::Clear(1, 0xFFFF_FFFF, b'a'), (0, 31)),
-        Step::Put(Change::Clear(1, u64::MAX - 1, b'a'), (4, 0)),
-        Step::Put(Change::Set(1, u64::MAX, b'd', 0, Some(10)), (5, 0)),
-        Step::Put(Change::Set(1, u64::MAX, b'd', 0, None), (0, 31)),
-        Step::Put(Change::Clear(2, 1, b'b'), (6, 0)),
-        Step::Put(Change::Set(2, u64::MAX, b'e', 0, None), (7, 0)),
-        // The Sweep has a serial of the writer's own.
-        Step::Put(Change::Set(3, 1, b'f', 20, None), (9, 0)),
-        Step::At(0, Look::Learns(7)),
-        Step::At(0, Look::Reads(20, 9, b"c e f ")),
-    ];
-    check_steps(&rt, alloc, blank(alloc, 3, 1)?, &steps)
-}
-
 /// A seat's token is of what it knows, and not of what the writer published since.
 #[test]
 fn a_seat_knows_no_more_than_it_learned(rt: HostRuntime) -> Result<(), Fail> {
@@ -126,26 +104,6 @@ fn each_sweep_is_of_the_moment_of_its_set(rt: HostRuntime) -> Result<(), Fail> {
         Step::Put(Change::Set(1, 9, b'e', 11, None), (0, 30)),
     ];
     check_steps(&rt, alloc, blank(alloc, 1, 1)?, &steps)
-}
-
-/// A message without an interval counts 363 bytes here, and one with it 368. What is refused makes no entry, and no Sweep either.
-#[test]
-fn a_set_is_refused_beyond_the_limit_of_bytes(rt: HostRuntime) -> Result<(), Fail> {
-    let alloc = rt.alloc();
-    let steps = [
-        Step::Put(Change::Set(1, 1, b'a', 100, Some(10)), (1, 0)),
-        Step::Put(Change::Set(1, 2, b'b', 100, None), (2, 0)),
-        // `a` has expired, but there is space for a topic.
-        Step::Put(Change::Set(1, 3, b'c', 120, None), (0, 32)),
-        Step::HoldsNothing,
-        // What is replaced gives its bytes back, here too few of them.
-        Step::Put(Change::Set(1, 3, b'b', 100, Some(10)), (0, 32)),
-        Step::Put(Change::Set(1, 3, b'b', 120, None), (3, 0)),
-        Step::Put(Change::Clear(1, 4, b'a'), (4, 0)),
-        Step::Put(Change::Set(1, 5, b'c', 120, None), (5, 0)),
-        Step::At(0, Look::Reads(120, 5, b"b c ")),
-    ];
-    check_steps(&rt, alloc, blank(alloc, 3, 1)?.with_memory(731), &steps)
 }
 
 #[test]

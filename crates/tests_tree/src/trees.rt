@@ -12,7 +12,6 @@ mod joined;
 mod lengths;
 mod snapshots;
 mod sweeps;
-mod weights;
 mod wide;
 
 /// How many messages an answer within this room has. `None` if there are more.

@@ -92,7 +92,6 @@ fn check_pair(
     let shown = shown_by(alloc, &pair.follower, filter)?;
     assert!(rt; shown.as_slice() == wanted.as_slice());
     assert!(rt; pair.first.branches() == pair.follower.branches());
-    assert!(rt; pair.first.bytes() == pair.follower.bytes());
     Ok(())
 }
 

@@ -3,7 +3,7 @@ use Rattle.sqlite_wal.specs.Recovery.{Pages}
 use Rattle.sqlite_wal.proofs.StateLemmas.{Keeps-trans}
 use Rattle.sqlite_pager.specs.Pager.{visible}
 use Rattle.rs_journal_pages.specs.Pages.{AreNumbered, IsHead}
-use Rattle.rs_journal_pages.proofs.OpenLemmas.{clean_along, wrong_page}
+use Rattle.rs_journal_pages.proofs.OpenLemmas.{clean_along}
 use Rattle.rs_journal_pages.proofs.StreamLemmas.{some_is}
 use Rattle.rs_journal_pages.proofs.opening.find_extent.Goals as goal
 
@@ -31,27 +31,19 @@ returns-in-Ok-Some-clause-found g c = λ clean is.
     }
 
 pub returns-in-Ok-None-clause-refused : goal.returns-in-Ok-None-clause-refused
-returns-in-Ok-None-clause-refused g c = λ _ clean.
+returns-in-Ok-None-clause-refused g c = λ _ clean first count stream has.
     let was = c.count_pages.ensures.keeps.stays.clean clean in
-    let page = c.loaded.result.now in
-    let there = c.in_default.ensures.ok was ∙ ap (λ (l : List ℕ). Some l) (sym c.loaded.ensures.value) in (
-      page,
-      there,
-      (
-        c.in-Ok.ensures.ok.named,
-        c.in-Ok.ensures.ok.version,
-        λ first count stream has.
-            let same = some_is has.head.bytes page (visible c.args.pager.now 1) has.head.there there in
-            let begins : first ≡ c.in-Ok.first = sym (subst (λ (l : List ℕ). IsHead l first) same has.head.says).begins ∙ c.in-Ok.ensures.ok.begins in
-            c.in-Ok-None.ensures.damaged (ap Ok c.in-Ok-None.field-0-is) clean count
-            (subst (λ (p : Pages). AreNumbered p c.in-Ok.first count) (sym c.load.ensures.pages) (subst (λ (n : ℕ). AreNumbered (visible c.args.pager.now) n count) begins has.numbered)),
-      ),
-    )
+    let there = c.in_default.ensures.ok was ∙ ap (λ (l : List ℕ). Some l) (sym c.loaded.ensures.value) in
+    let same = some_is has.head.bytes c.loaded.result.now (visible c.args.pager.now 1) has.head.there there in
+    let begins : first ≡ c.in-Ok.first = sym (subst (λ (l : List ℕ). IsHead l first) same has.head.says).begins ∙ c.in-Ok.ensures.ok.begins in
+    c.in-Ok-None.ensures.damaged (ap Ok c.in-Ok-None.field-0-is) clean count
+    (subst (λ (p : Pages). AreNumbered p c.in-Ok.first count) (sym c.load.ensures.pages) (subst (λ (n : ℕ). AreNumbered (visible c.args.pager.now) n count) begins has.numbered))
 
 pub returns-in-Err-read_head-clause-refused : goal.returns-in-Err-read_head-clause-refused
-returns-in-Err-read_head-clause-refused g c = λ _ clean.
+returns-in-Err-read_head-clause-refused g c = λ _ clean first count stream has.
     let there = c.in_default.ensures.ok clean ∙ ap (λ (l : List ℕ). Some l) (sym c.loaded.ensures.value) in
-    (c.loaded.result.now, there, wrong_page c.in-Err-read_head.fault (visible c.args.pager.now) c.loaded.result.now there c.in-Err-read_head.ensures.err)
+    let same = some_is has.head.bytes c.loaded.result.now (visible c.args.pager.now 1) has.head.there there in
+    c.in-Err-read_head.ensures.err first (subst (λ (l : List ℕ). IsHead l first) same has.head.says)
 
 pub returns-in-Ok-Some-clause-keeps : goal.returns-in-Ok-Some-clause-keeps
 returns-in-Ok-Some-clause-keeps g c = Keeps-trans _ _ _ c.load.ensures.keeps c.count_pages.ensures.keeps

@@ -3,7 +3,6 @@ use Rattle.sqlite_wal.specs.declared.error.Error.{Error}
 use Rattle.sqlite_wal.specs.Files.{RefusesToCreate}
 use Rattle.sqlite_wal.specs.Outcome.{HasCause}
 use Rattle.sqlite_wal.specs.Recovery.{IsBlank, only_page}
-use Rattle.sqlite_wal.proofs.StateLemmas.{AddsNothing-fewer}
 use Rattle.sqlite_pager.specs.Pager.{image, state}
 use Rattle.rs_journal_pages.proofs.FormLemmas.{head_long}
 use Rattle.rs_journal_pages.proofs.OpenLemmas.{each_created, head_gate, why_not_made}
@@ -42,18 +41,3 @@ returns-in-Err-Exists-clause-crash g c = λ streams.
 pub returns-in-Err-clause-crash : goal.returns-in-Err-clause-crash
 returns-in-Err-clause-crash g c = λ streams.
     each_created c.args.pager.now c.create.new.self c.args.first.now streams g.met.D.Disk.seen_may_stay c.requires.sized c.requires.head c.create.ensures.honest c.create.ensures.crash c.create.ensures.untouched
-
-pub returns-in-Ok-clause-untouched : goal.returns-in-Ok-clause-untouched
-returns-in-Ok-clause-untouched g c = λ made.
-    AddsNothing-fewer 1024 (state c.args.pager.now).may_leave (state c.create.new.self).may_leave
-    (c.create.ensures.untouched (λ blank. made (subst (λ (l : List ℕ). IsBlank l (image c.args.pager.now)) c.requires.head blank)))
-
-pub returns-in-Err-Exists-clause-untouched : goal.returns-in-Err-Exists-clause-untouched
-returns-in-Err-Exists-clause-untouched g c = λ made.
-    AddsNothing-fewer 1024 (state c.args.pager.now).may_leave (state c.create.new.self).may_leave
-    (c.create.ensures.untouched (λ blank. made (subst (λ (l : List ℕ). IsBlank l (image c.args.pager.now)) c.requires.head blank)))
-
-pub returns-in-Err-clause-untouched : goal.returns-in-Err-clause-untouched
-returns-in-Err-clause-untouched g c = λ made.
-    AddsNothing-fewer 1024 (state c.args.pager.now).may_leave (state c.create.new.self).may_leave
-    (c.create.ensures.untouched (λ blank. made (subst (λ (l : List ℕ). IsBlank l (image c.args.pager.now)) c.requires.head blank)))

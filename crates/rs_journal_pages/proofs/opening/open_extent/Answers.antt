@@ -1,12 +1,10 @@
 use Rattle.std.proofs.Common.{inl, [], Err, Ok, refl, sym, ap, subst, ◌∙◌}
 use Rattle.sqlite_wal.specs.Recovery.{Image, Pages, IsBlank}
-use Rattle.sqlite_wal.proofs.StateLemmas.{AddsNothing-trans}
-use Rattle.sqlite_pager.specs.Pager.{image, state, visible}
+use Rattle.sqlite_pager.specs.Pager.{visible}
 use Rattle.rs_journal_pages.specs.Pages.{HasStream, head_form, joined}
 use Rattle.rs_journal_pages.specs.Images.{StandsFor}
-use Rattle.rs_journal_pages.specs.declared.fault.OpenFault.{OpenFault}
-use Rattle.rs_journal_pages.specs.Opening.{Explains, IsRefusal}
-use Rattle.rs_journal_pages.proofs.OpenLemmas.{each_fewer, fewer_left, not_recovered, refused_corrupt, same_files}
+use Rattle.rs_journal_pages.specs.Opening.{IsRefusal}
+use Rattle.rs_journal_pages.proofs.OpenLemmas.{each_fewer, fewer_left, refused_corrupt, same_files}
 use Rattle.rs_journal_pages.proofs.StreamLemmas.{fresh}
 use Rattle.rs_journal_pages.proofs.opening.open_extent.Goals as goal
 
@@ -44,24 +42,6 @@ pub returns-in-Err-recover_extent-clause-refused : goal.returns-in-Err-recover_e
 returns-in-Err-recover_extent-clause-refused g c = λ refusal clean stream.
     let only = c.in-Ok-false.ensures.there (ap Ok c.in-Ok-false.field-0-test) in
     subst (λ (i : Image). ¬ StandsFor i stream) (same_files c.args.pager.now c.make_pages.new.pager only) (c.in-Err-recover_extent.ensures.refused refusal clean stream)
-
-pub returns-in-Err-recover_extent-clause-named : goal.returns-in-Err-recover_extent-clause-named
-returns-in-Err-recover_extent-clause-named g c = λ clean.
-    let only = c.in-Ok-false.ensures.there (ap Ok c.in-Ok-false.field-0-test) in
-    subst (λ (i : Image). Explains c.in-Err-recover_extent.fault i) (same_files c.args.pager.now c.make_pages.new.pager only) (c.in-Err-recover_extent.ensures.named clean)
-
-pub returns-in-Err-clause-named : goal.returns-in-Err-clause-named
-returns-in-Err-clause-named g c = λ clean.
-    subst (λ (f : OpenFault). Explains f (image c.args.pager.now)) (sym c.fault_from.ensures)
-    (not_recovered c.in-Err.error (image c.args.pager.now) (λ corrupt. absurd (c.in-Err.ensures.kind (ap Err corrupt))))
-
-pub returns-in-Ok-clause-untouched : goal.returns-in-Ok-clause-untouched
-returns-in-Ok-clause-untouched g c = λ made.
-    AddsNothing-trans 1024 (state c.args.pager.now).may_leave (state c.make_pages.new.pager).may_leave (state c.recover_extent.new.pager).may_leave (c.make_pages.ensures.untouched made) c.recover_extent.ensures.untouched
-
-pub returns-in-Err-recover_extent-clause-untouched : goal.returns-in-Err-recover_extent-clause-untouched
-returns-in-Err-recover_extent-clause-untouched g c = λ made.
-    AddsNothing-trans 1024 (state c.args.pager.now).may_leave (state c.make_pages.new.pager).may_leave (state c.recover_extent.new.pager).may_leave (c.make_pages.ensures.untouched made) c.recover_extent.ensures.untouched
 
 pub returns-in-Ok-clause-crash : goal.returns-in-Ok-clause-crash
 returns-in-Ok-clause-crash g c = λ streams each.

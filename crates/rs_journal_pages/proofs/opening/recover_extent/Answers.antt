@@ -2,27 +2,15 @@ use Rattle.std.proofs.Common.{ℕ, sym, subst, ◌∙◌}
 use Rattle.sqlite_wal.specs.declared.error.Error.{Error}
 use Rattle.sqlite_wal.specs.Files.{RefusesToRecover}
 use Rattle.sqlite_wal.specs.Outcome.{HasCause}
-use Rattle.sqlite_wal.specs.Recovery.{Pages, AddsNothing, IsUnreadable, Recovers}
+use Rattle.sqlite_wal.specs.Recovery.{Pages, IsUnreadable, Recovers}
 use Rattle.sqlite_pager.specs.Pager.{image, state, visible}
 use Rattle.rs_journal_pages.specs.Pages.{HasStream, joined}
-use Rattle.rs_journal_pages.specs.declared.fault.OpenFault.{OpenFault}
-use Rattle.rs_journal_pages.specs.Opening.{Explains, IsRefusal}
-use Rattle.rs_journal_pages.proofs.OpenLemmas.{along_reads, clean_along, each_read, each_reopened, not_recovered, not_unreadable, not_without, recovered_wrong, refused_corrupt, stands_recovered, why_not_found, wrong_pages}
+use Rattle.rs_journal_pages.specs.Opening.{IsRefusal}
+use Rattle.rs_journal_pages.proofs.OpenLemmas.{clean_along, each_read, each_reopened, not_unreadable, not_without, refused_corrupt, stands_recovered, why_not_found}
 use Rattle.rs_journal_pages.proofs.opening.recover_extent.Goals as goal
 
 pub find_extent-requires : goal.find_extent-requires
 find_extent-requires g c = c.recover.ensures.size ∙ c.requires.sized
-
-pub returns-in-Err-clause-named : goal.returns-in-Err-clause-named
-returns-in-Err-clause-named g c = λ clean.
-    let old = c.args.pager.now in
-    subst (λ (f : OpenFault). Explains f (image old)) (sym c.fault_from.ensures)
-    (not_recovered c.in-Err.error (image old) (λ corrupt.
-    let cause = subst (λ (e : Error). HasCause (state old).faults (state c.recover.new.self).faults (RefusesToRecover (state old).page_size (image old)) e) corrupt (c.in-Err.ensures.cause.0 clean) in
-    subst (λ (n : ℕ). IsUnreadable n (image old)) c.requires.sized (why_not_found (state old).faults (state c.recover.new.self).faults (state old).page_size (image old) cause)))
-
-pub returns-in-Err-clause-untouched : goal.returns-in-Err-clause-untouched
-returns-in-Err-clause-untouched g c = subst (λ (n : ℕ). AddsNothing n (state c.args.pager.now).may_leave (state c.recover.new.self).may_leave) c.requires.sized c.recover.ensures.crash
 
 pub returns-in-Err-clause-refused : goal.returns-in-Err-clause-refused
 returns-in-Err-clause-refused g c = λ refusal clean stream.
@@ -76,29 +64,11 @@ returns-in-Err-find_extent-clause-refused g c = λ refusal clean stream.
     let was = c.find_extent.ensures.keeps.stays.clean clean in
     let idle = c.in_default.ensures.clean was in
     let found = subst (λ (n : ℕ). Recovers n (image old) (state mid).committed) c.requires.sized (c.in_default.ensures.found was) in
-    let wrong = c.in-Err-find_extent.ensures.refused refusal clean in
     not_without (image old) stream (state mid).committed (c.requires.begun (c.recover.ensures.honest was)) found
-    (λ first count s has. wrong_pages c.in-Err-find_extent.fault (visible mid) wrong.0 wrong.1 wrong.2 first count s (subst (λ (p : Pages). HasStream p first count s) (sym idle.1) has))
+    (λ first count s has. c.in-Err-find_extent.ensures.refused refusal clean first count s (subst (λ (p : Pages). HasStream p first count s) (sym idle.1) has))
 
 pub returns-in-Ok-clause-honest : goal.returns-in-Ok-clause-honest
 returns-in-Ok-clause-honest g c = λ clean. c.recover.ensures.honest (c.find_extent.ensures.keeps.stays.clean clean)
 
 pub returns-in-Err-find_extent-clause-honest : goal.returns-in-Err-find_extent-clause-honest
 returns-in-Err-find_extent-clause-honest g c = λ clean. c.recover.ensures.honest (c.find_extent.ensures.keeps.stays.clean clean)
-
-pub returns-in-Err-find_extent-clause-named : goal.returns-in-Err-find_extent-clause-named
-returns-in-Err-find_extent-clause-named g c = λ clean.
-    let old = c.args.pager.now in
-    let mid = c.recover.new.self in
-    let was = c.find_extent.ensures.keeps.stays.clean clean in
-    let idle = c.in_default.ensures.clean was in
-    let found = subst (λ (n : ℕ). Recovers n (image old) (state mid).committed) c.requires.sized (c.in_default.ensures.found was) in
-    recovered_wrong c.in-Err-find_extent.fault (image old) (visible mid) (subst (λ (p : Pages). Recovers 1024 (image old) p) (sym idle.1) found) (λ refusal. c.in-Err-find_extent.ensures.refused refusal clean)
-
-pub returns-in-Err-find_extent-clause-untouched : goal.returns-in-Err-find_extent-clause-untouched
-returns-in-Err-find_extent-clause-untouched g c =
-    along_reads c.args.pager.now c.recover.new.self c.find_extent.new.pager c.requires.sized c.recover.ensures.size c.recover.ensures.crash c.find_extent.ensures.keeps
-
-pub returns-in-Ok-clause-untouched : goal.returns-in-Ok-clause-untouched
-returns-in-Ok-clause-untouched g c =
-    along_reads c.args.pager.now c.recover.new.self c.find_extent.new.pager c.requires.sized c.recover.ensures.size c.recover.ensures.crash c.find_extent.ensures.keeps

@@ -18,9 +18,3 @@ returns-in-Ok-clause-crash g c = c.begin_anew.ensures.crash
 
 pub returns-in-Err-clause-crash : goal.returns-in-Err-clause-crash
 returns-in-Err-clause-crash g c = c.begin_anew.ensures.crash
-
-pub returns-in-Ok-clause-closed : goal.returns-in-Ok-clause-closed
-returns-in-Ok-clause-closed g c = c.begin_anew.ensures.closed
-
-pub returns-in-Err-clause-closed : goal.returns-in-Err-clause-closed
-returns-in-Err-clause-closed g c = c.begin_anew.ensures.closed

@@ -27,6 +27,3 @@ returns-then-is_open-clause-closed g c = c.commit.ensures.closed
 
 pub returns-else-is_open-clause-closed : goal.returns-else-is_open-clause-closed
 returns-else-is_open-clause-closed g c = c.commit.ensures.closed
-
-pub returns-else-is_open-clause-doubtful : goal.returns-else-is_open-clause-doubtful
-returns-else-is_open-clause-doubtful g c = λ _ ready. absurd (cc (c.if-is_open.false, c.is_open.ensures.1 ready))

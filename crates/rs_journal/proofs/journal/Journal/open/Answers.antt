@@ -1,11 +1,10 @@
 use Rattle.std.proofs.Common.{ℕ, List, map, subst}
-use Rattle.sqlite_wal.proofs.StateLemmas.{AddsNothing-trans}
 use Rattle.rs_journal_pages.specs.Images.{StandsFor}
 use Rattle.rs_journal_pages.specs.Streams.{image, may_leave}
 use Rattle.rs_journal_pages.proofs.StandsLemmas.{rests_like}
 use Rattle.rs_journal_pages.proofs.CrashLemmas.{each_at_rest}
 use Rattle.rs_journal.specs.Frames.{frames}
-use Rattle.rs_journal.proofs.FrameLemmas.{each_from_mapped, each_mapped, explained, stands_for_none}
+use Rattle.rs_journal.proofs.FrameLemmas.{each_from_mapped, each_mapped}
 use Rattle.rs_journal.proofs.journal.Journal.open.Goals as goal
 
 pub returns-in-Ok-clause-found : goal.returns-in-Ok-clause-found
@@ -39,31 +38,3 @@ returns-in-Err-read_stream-clause-crash g c = λ lists each.
 pub returns-in-Err-clause-crash : goal.returns-in-Err-clause-crash
 returns-in-Err-clause-crash g c = λ lists each.
     each_from_mapped (may_leave c.open.new.self) lists (c.open.ensures.crash (map frames lists) (each_mapped (may_leave c.args.self.now.stream) lists each))
-
-pub returns-in-Err-clause-refused : goal.returns-in-Err-clause-refused
-returns-in-Err-clause-refused g c = λ refusal clean operations are. c.in-Err.ensures.refused refusal clean (frames operations)
-
-pub returns-in-Err-clause-named : goal.returns-in-Err-clause-named
-returns-in-Err-clause-named g c = c.in-Err.ensures.named
-
-pub returns-in-Err-clause-untouched : goal.returns-in-Err-clause-untouched
-returns-in-Err-clause-untouched g c = c.open.ensures.untouched
-
-pub returns-in-Err-read_stream-clause-refused : goal.returns-in-Err-read_stream-clause-refused
-returns-in-Err-read_stream-clause-refused g c = λ refusal clean operations are.
-    let found = c.in_default.ensures.found in
-    stands_for_none c.in-Err-read_stream.fault (image c.args.self.now.stream) found.0 operations (found.1 (c.read_stream.ensures.clean clean))
-    (c.in-Err-read_stream.ensures.refused found.0 found.2 c.in_default.ensures.open clean) refusal are
-
-pub returns-in-Err-read_stream-clause-named : goal.returns-in-Err-read_stream-clause-named
-returns-in-Err-read_stream-clause-named g c = λ clean.
-    let found = c.in_default.ensures.found in
-    explained c.in-Err-read_stream.fault (image c.args.self.now.stream) found.0 (found.1 (c.read_stream.ensures.clean clean)) (c.in-Err-read_stream.ensures.refused found.0 found.2 c.in_default.ensures.open clean)
-
-pub returns-in-Ok-clause-untouched : goal.returns-in-Ok-clause-untouched
-returns-in-Ok-clause-untouched g c = λ made.
-    AddsNothing-trans 1024 (may_leave c.args.self.now.stream) (may_leave c.open.new.self) (may_leave c.read_stream.new.self.stream) (c.open.ensures.untouched made) c.read_stream.ensures.crash
-
-pub returns-in-Err-read_stream-clause-untouched : goal.returns-in-Err-read_stream-clause-untouched
-returns-in-Err-read_stream-clause-untouched g c = λ made.
-    AddsNothing-trans 1024 (may_leave c.args.self.now.stream) (may_leave c.open.new.self) (may_leave c.read_stream.new.self.stream) (c.open.ensures.untouched made) c.read_stream.ensures.crash

@@ -7,6 +7,3 @@ returns-clause-rests g c = λ standing seen holds. c.rollback.ensures.rests (fra
 
 pub returns-clause-crash : goal.returns-clause-crash
 returns-clause-crash g c = c.rollback.ensures.crash
-
-pub returns-clause-closed : goal.returns-clause-closed
-returns-clause-closed g c = c.rollback.ensures.closed

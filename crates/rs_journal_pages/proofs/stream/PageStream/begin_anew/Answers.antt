@@ -1,6 +1,6 @@
 use Rattle.sqlite_wal.proofs.StateLemmas.{AddsNothing-trans}
 use Rattle.rs_journal_pages.specs.Streams.{may_leave}
-use Rattle.rs_journal_pages.proofs.StandsLemmas.{adds_none, closed_trans, stands_if_rests, stands_of, stands_on, was_ready}
+use Rattle.rs_journal_pages.proofs.StandsLemmas.{adds_none, stands_if_rests, stands_of, stands_on, was_ready}
 use Rattle.rs_journal_pages.proofs.stream.PageStream.begin_anew.Goals as goal
 
 pub returns-in-Ok-clause-begun : goal.returns-in-Ok-clause-begun
@@ -25,13 +25,3 @@ returns-in-Err-clause-crash g c =
     (AddsNothing-trans 1024 (may_leave c.args.self.now) (may_leave c.rollback.new.self) (may_leave c.put_head.new.self) c.rollback.ensures.crash
     (adds_none c.rollback.new.self c.put_head.new.self c.put_head.ensures.goes_on))
     c.rollback-in-Err.ensures.crash
-
-pub returns-in-Ok-clause-closed : goal.returns-in-Ok-clause-closed
-returns-in-Ok-clause-closed g c = λ shut.
-    let mid = c.rollback.ensures.closed shut in closed_trans c.args.self.now c.rollback.new.self c.put_head.new.self mid (c.put_head.ensures.closed mid.closed)
-
-pub returns-in-Err-clause-closed : goal.returns-in-Err-clause-closed
-returns-in-Err-clause-closed g c = λ shut.
-    let mid = c.rollback.ensures.closed shut in
-    let late = closed_trans c.args.self.now c.rollback.new.self c.put_head.new.self mid (c.put_head.ensures.closed mid.closed) in
-    closed_trans c.args.self.now c.put_head.new.self c.rollback-in-Err.new.self late (c.rollback-in-Err.ensures.closed late.closed)

@@ -1,5 +1,6 @@
 use Rattle.std.proofs.Common.{refl}
-use Rattle.rs_journal_pages.proofs.StandsLemmas.{closed_trans, either_kept}
+use Rattle.sqlite_wal.proofs.StateLemmas.{AddsNothing-trans}
+use Rattle.rs_journal_pages.proofs.StandsLemmas.{either_kept}
 use Rattle.rs_journal_pages.specs.Streams.{may_leave}
 use Rattle.rs_journal_pages.proofs.stream.PageStream.commit.Goals as goal
 
@@ -24,4 +25,4 @@ returns-in-Ok-clause-closed g c = c.commit_all.ensures.closed
 
 pub returns-in-Err-clause-closed : goal.returns-in-Err-clause-closed
 returns-in-Err-clause-closed g c = λ shut.
-    let mid = c.commit_all.ensures.closed shut in closed_trans c.args.self.now c.commit_all.new.self c.rollback.new.self mid (c.rollback.ensures.closed mid.closed)
+    AddsNothing-trans 1024 (may_leave c.args.self.now) (may_leave c.commit_all.new.self) (may_leave c.rollback.new.self) (c.commit_all.ensures.closed shut) c.rollback.ensures.crash

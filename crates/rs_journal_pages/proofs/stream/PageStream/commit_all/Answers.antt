@@ -1,8 +1,7 @@
-use Rattle.std.proofs.Common.{ℕ, List, refl, inl}
+use Rattle.std.proofs.Common.{refl, inl}
 use Rattle.sqlite_wal.proofs.StateLemmas.{clean_of}
 use Rattle.sqlite_pager.specs.Pager.{state}
-use Rattle.rs_journal_pages.specs.Streams.{IsOpen, Holds, Stands}
-use Rattle.rs_journal_pages.proofs.StandsLemmas.{closed_same, either_committed, leaves_of, on_err, rests_committed, stands_of, stands_on, stands_uncommitted}
+use Rattle.rs_journal_pages.proofs.StandsLemmas.{adds_none, closed_commit, either_committed, leaves_of, rests_committed, stands_of, stands_on, stands_uncommitted, was_ready}
 use Rattle.rs_journal_pages.proofs.stream.PageStream.commit_all.Goals as goal
 
 pub returns-in-Err-clause-stands : goal.returns-in-Err-clause-stands
@@ -32,25 +31,14 @@ returns-clause-done g c = λ standing seen holds.
     (λ sound. c.in_default-commit.ensures.durable (clean_of (state c.commit.new.self) sound))
     refl refl c.in_default.ensures.empty c.in_default.ensures.empty (c.in_default.ensures.holds standing seen holds)
 
-pub returns-in_err-check_open-clause-stands : goal.returns-in_err-check_open-clause-stands
-returns-in_err-check_open-clause-stands g c =
-    let it = c.args.self.now in
-    on_err c.from_residual.result (IsOpen it → (standing seen : List ℕ) → Holds it standing seen → Stands it standing) (λ ready standing seen holds. stands_of it standing seen holds)
-
-pub returns-in_err-check_open-clause-crash : goal.returns-in_err-check_open-clause-crash
-returns-in_err-check_open-clause-crash g c = λ standing seen holds left may. inl (leaves_of c.args.self.now standing (stands_of c.args.self.now standing seen holds) left may)
-
-pub returns-in_err-check_open-clause-closed : goal.returns-in_err-check_open-clause-closed
-returns-in_err-check_open-clause-closed g c = closed_same c.args.self.now _ refl
-
 pub returns-in-Err-clause-closed : goal.returns-in-Err-clause-closed
-returns-in-Err-clause-closed g c = λ shut. absurd (shut c.in_ok-check_open.ensures)
+returns-in-Err-clause-closed g c = λ shut. adds_none c.args.self.now c.flush.new.self c.flush.ensures.goes_on
 
 pub returns-in-Err-commit-clause-closed : goal.returns-in-Err-commit-clause-closed
-returns-in-Err-commit-clause-closed g c = λ shut. absurd (shut c.in_ok-check_open.ensures)
+returns-in-Err-commit-clause-closed g c = closed_commit c.args.self.now c.flush.new.self c.commit.new.self c.flush.ensures.goes_on c.commit.ensures.crash
 
 pub returns-clause-closed : goal.returns-clause-closed
-returns-clause-closed g c = λ shut. absurd (shut c.in_ok-check_open.ensures)
+returns-clause-closed g c = closed_commit c.args.self.now c.flush.new.self c.commit.new.self c.flush.ensures.goes_on c.commit.ensures.crash
 
 pub returns-clause-open : goal.returns-clause-open
-returns-clause-open g c = c.in_ok-check_open.ensures
+returns-clause-open g c = was_ready c.args.self.now c.flush.new.self c.flush.ensures.goes_on (c.commit.ensures.crash.stays.was_ready c.in_default-commit.ensures.ready)

@@ -1,6 +1,6 @@
 use Rattle.sqlite_wal.proofs.StateLemmas.{AddsNothing-trans}
 use Rattle.rs_journal_pages.specs.Streams.{may_leave}
-use Rattle.rs_journal_pages.proofs.StandsLemmas.{adds_none, closed_trans, stands_of, stands_on}
+use Rattle.rs_journal_pages.proofs.StandsLemmas.{adds_none, stands_of, stands_on}
 use Rattle.rs_journal_pages.proofs.stream.PageStream.push.Goals as goal
 
 pub returns-in-Ok-clause-pushed : goal.returns-in-Ok-clause-pushed
@@ -20,10 +20,3 @@ pub returns-in-Err-clause-crash : goal.returns-in-Err-clause-crash
 returns-in-Err-clause-crash g c =
     AddsNothing-trans 1024 (may_leave c.args.self.now) (may_leave c.push_all.new.self) (may_leave c.rollback.new.self) (adds_none c.args.self.now c.push_all.new.self c.push_all.ensures.goes_on)
     c.rollback.ensures.crash
-
-pub returns-in-Ok-clause-closed : goal.returns-in-Ok-clause-closed
-returns-in-Ok-clause-closed g c = c.push_all.ensures.closed
-
-pub returns-in-Err-clause-closed : goal.returns-in-Err-clause-closed
-returns-in-Err-clause-closed g c = λ shut.
-    let mid = c.push_all.ensures.closed shut in closed_trans c.args.self.now c.push_all.new.self c.rollback.new.self mid (c.rollback.ensures.closed mid.closed)

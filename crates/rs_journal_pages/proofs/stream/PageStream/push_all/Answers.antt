@@ -1,7 +1,7 @@
 use Rattle.std.proofs.Common.{refl, ◌++◌, ℕ, List, take, sym, subst, arith}
 use Rattle.std.proofs.lemmas.List.{append-nil, take_all}
 use Rattle.rs_journal_pages.specs.Streams.{Holds}
-use Rattle.rs_journal_pages.proofs.StandsLemmas.{closed_same, goes_on_same, goes_on_trans}
+use Rattle.rs_journal_pages.proofs.StandsLemmas.{goes_on_same, goes_on_trans}
 use Rattle.rs_journal_pages.proofs.ListLemmas.{front_more, within_more}
 use Rattle.rs_journal_pages.proofs.stream.PageStream.push_all.Goals as goal
 
@@ -40,12 +40,3 @@ returns-clause-goes_on g c = c.loop-from.invariant.goes_on
 pub returns-clause-pushed : goal.returns-clause-pushed
 returns-clause-pushed g c = λ standing seen holds.
     subst (λ (s : List ℕ). Holds c.loop-from.self standing (seen ++ s)) (take_all c.loop-from.from c.args.bytes.now c.loop-from-test.false) (c.loop-from.invariant.pushed standing seen holds)
-
-pub returns-in_err-check_open-clause-closed : goal.returns-in_err-check_open-clause-closed
-returns-in_err-check_open-clause-closed g c = closed_same c.args.self.now _ refl
-
-pub returns-in_err-pushed-clause-closed : goal.returns-in_err-pushed-clause-closed
-returns-in_err-pushed-clause-closed g c = λ shut. absurd (shut c.in_ok-check_open.ensures)
-
-pub returns-clause-closed : goal.returns-clause-closed
-returns-clause-closed g c = λ shut. absurd (shut c.in_ok-check_open.ensures)

@@ -2,7 +2,7 @@ use Rattle.std.proofs.Common.{◌≡◌, ◌+◌, ◌++◌, ℕ, List, Some, ref
 use Rattle.sqlite_wal.specs.Recovery.{Pages}
 use Rattle.sqlite_pager.specs.Pager.{visible}
 use Rattle.rs_journal_pages.specs.Pages.{joined, part_in}
-use Rattle.rs_journal_pages.proofs.StandsLemmas.{adds_nothing, rests_along}
+use Rattle.rs_journal_pages.proofs.StandsLemmas.{rests_along}
 use Rattle.rs_journal_pages.proofs.stream.PageStream.read_part.Goals as goal
 
 pub read_page-requires : goal.read_page-requires
@@ -32,12 +32,3 @@ returns-in_err-extend_from_slice-clause-rests g c = λ standing rests. rests_alo
 
 pub returns-in_err-extend_from_slice-clause-same : goal.returns-in_err-extend_from_slice-clause-same
 returns-in_err-extend_from_slice-clause-same g c = record { clean = c.load.ensures.keeps.stays.clean; pages = refl; parts = λ n. ap (λ (p : Pages). joined p n) c.load.ensures.pages; open_same = λ h. c.load.ensures.open ∙ h }
-
-pub returns-clause-crash : goal.returns-clause-crash
-returns-clause-crash g c = adds_nothing c.args.self.now c.load.new.self c.load.ensures.keeps
-
-pub returns-in_err-load-clause-crash : goal.returns-in_err-load-clause-crash
-returns-in_err-load-clause-crash g c = adds_nothing c.args.self.now c.load.new.self c.load.ensures.keeps
-
-pub returns-in_err-extend_from_slice-clause-crash : goal.returns-in_err-extend_from_slice-clause-crash
-returns-in_err-extend_from_slice-clause-crash g c = adds_nothing c.args.self.now c.load.new.self c.load.ensures.keeps

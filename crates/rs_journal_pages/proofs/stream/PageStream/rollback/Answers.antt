@@ -10,6 +10,3 @@ returns-clause-open g c = (λ h. sym c.rollback.ensures.ready ∙ h, λ h. c.rol
 
 pub returns-clause-crash : goal.returns-clause-crash
 returns-clause-crash g c = adds_nothing c.args.self.now c.rollback.new.self c.rollback.ensures.keeps
-
-pub returns-clause-closed : goal.returns-clause-closed
-returns-clause-closed g c = λ shut. record { closed = λ h. shut (sym c.rollback.ensures.ready ∙ h); files = c.rollback.ensures.files; outcomes = adds_nothing c.args.self.now c.rollback.new.self c.rollback.ensures.keeps }

@@ -1,3 +1,0 @@
-pub mod Counters
-pub mod Snapshots
-pub mod Texts
