@@ -33,9 +33,12 @@ from harness.words import given_words
 
 RUNS = 5
 
-# One place for each of eight publishers. A store that is nearly full.
-PLACES = 8
+# What the service of contrib/ gives the server, but for the log. A store that is nearly full.
+SERVICE = {"places": 16, "clients": 2_000, "memory": "512M", "idle": 120}
 TOPICS = 65_536
+
+# A place for each client.
+OWN_PLACES = {"places": 8, "clients": None}
 
 # Clients that connect at once, of how many groups they are, and the messages of each group.
 FLEET = 1_000
@@ -227,8 +230,8 @@ def shares(scale):
 def longest_wait(messages, is_shared=False):
     """The longest that one of 20,000 publications, sent one at a time, waits for its PUBACK beside
     a client that replays so many messages all the time. Each thread on its way has a processor of
-    its own. At a place that both clients share, any of its threads may serve either, so they have
-    two processors, of which the replaying client has one, too."""
+    its own, the writer's too. At a place that both clients share, any of its threads may serve
+    either, so they have two processors, of which the replaying client has one, too."""
 
     def prepare(load, scale):
         replays, pid = replaying(load, 1, scale, messages), load.broker.run.pid
@@ -242,7 +245,7 @@ def longest_wait(messages, is_shared=False):
                 for thread in threads:
                     pin(thread, place | rest if is_shared else place)
                 # mosquitto has one thread, which is both. Else the writer's is the first that the
-                # program starts, and all changes go through it.
+                # program starts.
                 if not is_shared:
                     pin(replayed, rest)
                 pin(threads[:2][-1], own)
@@ -258,7 +261,7 @@ def echo_wait(path, scale):
     """What `longest_wait` measures, of a server that only sends each PUBACK back. The replaying
     client is one of rstored."""
     client, _, own, rest = shares(scale)
-    with on(rest), Server(places=PLACES, topics=TOPICS) as server:
+    with on(rest), Server(topics=TOPICS, **OWN_PLACES) as server:
         load, anywhere = Load(path, server), Load(path, SimpleNamespace(port=0))
         with replaying(load, 1, scale)(), on(own), beside(anywhere, 1, "echo") as [echo]:
             port = int(echo.stdout.readline())
@@ -449,6 +452,7 @@ MEASURES = (
         # Now and then the machine stops a thread for some milliseconds, the echo's too. What a
         # broker causes comes in each run.
         choose=min,
+        server=OWN_PLACES,
     ),
     fast(
         "answer to a filter of one of 60,000 topics beside 64 publishers at its place",
@@ -484,7 +488,7 @@ FLEETS = (
 
 def values(measure, path, runs, scale):
     """The values of the program and of mosquitto, which are measured in turns."""
-    options = {"places": PLACES, **measure.server}
+    options = {**SERVICE, **measure.server}
     with Server(topics=TOPICS, **options) as server, Mosquitto() as mosquitto:
         tools = [measure.prepare(Load(path, broker), scale) for broker in (server, mosquitto)]
         found = [[tool() for tool in tools] for _ in range(runs)]

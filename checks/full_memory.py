@@ -3,9 +3,9 @@ refuses publications.
 
 The limit is that of `ulimit -d` and of `LimitDATA`. It is set once all places have their threads,
 whose stacks count, too. Each check is made with short messages, with longer ones, and with some of
-which each takes more than the server keeps free; by the settings of the service in `contrib/`, and
-without them where they are not needed; with a client for each place, and with more clients than
-places.
+which each takes more than the server keeps free; by the settings that docs/RUNNING.md has for this
+limit, and without them where they are not needed; with a client for each place, and with more
+clients than places.
 """
 
 import itertools
@@ -43,10 +43,10 @@ IDLE, MOST_IDLE = 200, 12_000
 
 
 def settings():
-    """What the service adds to the environment."""
-    lines = (ROOT / "contrib/rstored.service").read_text().splitlines()
+    """What RUNNING.md adds to the environment of a server at this limit."""
+    lines = map(str.strip, (ROOT / "docs/RUNNING.md").read_text().splitlines())
     given = [line.removeprefix("Environment=") for line in lines if line.startswith("Environment=")]
-    wanted(given, "the service adds nothing to the environment")
+    wanted(given, "RUNNING.md adds nothing to the environment")
     return dict(word.split("=", 1) for word in given)
 
 
@@ -152,8 +152,8 @@ def can_be_read(size, clients, environment):
 
 def all_can_be_read():
     """At the limit, a client that comes and one that was there before read one topic after the
-    other. With more clients than places this needs the settings of the service: whichever thread
-    has time serves a client, and each would keep free memory of its own."""
+    other. With more clients than places this needs the settings: whichever thread has
+    time serves a client, and each would keep free memory of its own."""
     for size in SPACES:
         can_be_read(size, PLACES, None)
         for clients in CLIENTS:

@@ -1,5 +1,6 @@
-"""Runs the program with `--idle` and with `--log`: a silent client gives its place back, and what
-the log says of each connection is true.
+"""Runs the program with `--idle`, with `--log` and with `--memory`: a silent client gives its place
+back, what the log says of each connection is true, and messages that count too many bytes are
+refused.
 
 The checks wait for what has to come. A connection that has to end may end late, as on a busy
 machine. Of one that has to stay they look only at what it is answered.
@@ -27,6 +28,13 @@ from checks.operating_log import (
     refused_memory,
     sixty_four_at_once,
 )
+from checks.operating_memory import (
+    a_log_of_memory,
+    a_sweep_gives_back,
+    eight_publishers,
+    readers_at_the_limit,
+    set_replaced_cleared,
+)
 from harness.words import run_named
 
 CHECKS = (
@@ -48,6 +56,11 @@ CHECKS = (
     few_may_wait,
     no_log,
     cannot_listen,
+    set_replaced_cleared,
+    a_sweep_gives_back,
+    eight_publishers,
+    readers_at_the_limit,
+    a_log_of_memory,
 )
 
 

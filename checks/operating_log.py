@@ -335,16 +335,21 @@ def cannot_listen():
     """With `--log` a second line says why. Without it there is none."""
     with Server() as server, tempfile.TemporaryDirectory() as folder:
         no_thread = {"LD_PRELOAD": preloaded("few_threads", folder), "THREADS": "0"}
-        for address, environment, reason in (
-            (f"{server.host}:{server.port}", {}, "Address already in use"),
-            ("127.0.0.1", {}, "invalid socket address"),
-            ("192.0.2.1:0", {}, "Cannot assign requested address"),
-            ("127.0.0.1:0", no_thread, "no thread can be started"),
+        used = f"{server.host}:{server.port}"
+        told = ("--metrics", used)
+        no_metrics = "the address for metrics cannot be listened on: Address already in use"
+        for address, more, environment, reason in (
+            (used, (), {}, "Address already in use"),
+            ("127.0.0.1", (), {}, "invalid socket address"),
+            ("192.0.2.1:0", (), {}, "Cannot assign requested address"),
+            ("127.0.0.1:0", (), no_thread, "no thread can be started"),
+            ("127.0.0.1:0", told, {}, no_metrics),
         ):
-            for words in ((), ("--log",)):
+            for words in (more, (*more, "--log")):
                 run = start(address, "--connections", "1", *words, environment=environment)
                 _, errors = run.communicate(timeout=PATIENCE)
-                first, *more = errors.splitlines()
+                first, *shown = errors.splitlines()
                 wanted((run.returncode, first) == (1, "rstored: cannot listen"), errors)
-                is_shown = len(more) == 1 and more[0].startswith("rstored: ") and reason in more[0]
-                wanted(is_shown if words else not more, errors)
+                is_told = len(shown) == 1 and shown[0].startswith("rstored: ")
+                is_told = is_told and reason in shown[0]
+                wanted(is_told if "--log" in words else not shown, errors)

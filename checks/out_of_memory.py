@@ -5,8 +5,8 @@ of a session that was refused memory at one packet, which keeps nothing of that 
 when it comes again; or with status 1, write all replies before one or before a packet, and say on
 standard error what failed: never another answer. The program check_tasks does the same with the
 calls of a catalogue, of a window, of a store of versions, of the queue to its writer, of clients
-that share a seat, and of a client that is served. Without a refusal it looks at 200,000 connections
-as they come back.
+that share a seat, and of a client that is served, and out_of_memory_journal.py with those of a
+journal. Without a refusal check_tasks looks at 200,000 connections as they come back.
 """
 
 import os
@@ -15,6 +15,7 @@ import sys
 import tempfile
 from collections import Counter
 
+from checks import out_of_memory_journal
 from checks.exchange import (
     before_each_packet,
     before_each_reply,
@@ -22,6 +23,7 @@ from checks.exchange import (
     possible,
     short_exchange,
 )
+from checks.out_of_memory_journal import DOUBT, END, KINDS
 from harness.patience import PATIENCE
 from harness.program import preloaded, program
 from harness.words import given_words
@@ -115,7 +117,8 @@ def calls(task, least, library, count=1, untold=0):
     read.
     """
     refused, unread = Counter(), 0
-    not_read = b"check_tasks: the clock, the words, the input or the output failed\n"
+    not_read = b"check_tasks: the clock, the words, "
+    no_memory = b"check_tasks: out of memory\n"
     words = [program("check_tasks"), task]
     for at, run, was_refused in in_turn(words, b"", library, count):
         printed = [int(line) for line in run.stdout.split()]
@@ -125,9 +128,9 @@ def calls(task, least, library, count=1, untold=0):
             refused.update(counts)
             refused[UNTOLD] += was_refused and not any(counts.values())
             continue
-        is_unread = at == unread + 1 and run.stderr == not_read
+        is_unread = at == unread + 1 and run.stderr.startswith(not_read)
         unread += is_unread
-        is_reported = is_unread or run.stderr == b"check_tasks: out of memory\n"
+        is_reported = is_unread or run.stderr == no_memory
         if not (was_refused and run.returncode == 1 and run.stdout == b"" and is_reported):
             shown = f"status {run.returncode}, {run.stdout!r}, {run.stderr!r}"
             sys.exit(f"{task}, allocation {at}: {shown}")
@@ -141,6 +144,13 @@ def ended():
     if (run.returncode, run.stdout, run.stderr) != (0, b"200000\n", b""):
         sys.exit(f"ended: status {run.returncode}, {run.stdout!r}, {run.stderr!r}")
     print("out of memory: none of 200,000 connections was refused, and each came back as it has to")
+
+
+def journal():
+    """Works a journal over real files. Each kind of call must be refused memory."""
+    refused, untold, runs = out_of_memory_journal.refusals()
+    kinds = (*KINDS.values(), DOUBT, END)
+    enough("a journal", refused | {UNTOLD: untold}, dict.fromkeys((*kinds, UNTOLD), 2), runs)
 
 
 def main():
@@ -180,6 +190,7 @@ def main():
             calls("queue", least | {"the last submit": held}, library, count)
             calls("clients", least | {"an answer": 2}, library, count)
             calls("connections", {"a connection": 2, "a publication": 2}, library, count)
+    journal()
 
 
 if __name__ == "__main__":

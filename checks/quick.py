@@ -22,7 +22,7 @@ from harness.words import NAME, given_words
 # How much memory is left for each that runs, in kilobytes.
 MEMORY = 2_000_000
 # These run longest, so they begin first.
-LONGEST = ("check_tasks", "tests_tree")
+LONGEST = ("check_tasks", "tests_store")
 # How many seconds one may run once it is compiled. `rt try` looks at each access of memory, which
 # makes all slower.
 LIMIT = 3 * PATIENCE

@@ -74,6 +74,12 @@ NOT_READ = End(1, "", "rstored: read failed\n")
 NOT_WRITTEN = End(1, None, "rstored: write failed\n")
 NO_MEMORY = End(1, "", "rstored: out of memory\n")
 NO_LISTENER = End(1, "", "rstored: cannot listen\n")
+NO_SIZE = End(
+    2,
+    "",
+    f"error: --memory takes a number of bytes from 1 to {2**64 - 1}, or a number before K, M or G, "
+    "as 512M\n",
+)
 NO_END = End(2, "", "error: give either --connections or --endless\n")
 
 ABOUT = "Keeps the retained message of each MQTT 5 topic and answers subscriptions from it"
@@ -87,16 +93,21 @@ ADDRESS = "--address <ADDRESS>"
 PLACES = "places <1-64>"
 CLIENTS = "clients <1-10000>"
 TOPICS = "topics <1-65536>"
+MEMORY = "memory <SIZE>"
 CONNECTIONS = "connections <1-1000000>"
 IDLE = "idle <1-86400>"
 LISTEN = f"listen [OPTIONS] {ADDRESS}"
 LISTENS = "Serves MQTT 5 clients that connect by TCP."
-SIZES = (f"--{PLACES}", f"--{CLIENTS}", f"--{TOPICS}", f"--{CONNECTIONS}")
-LIMITS = (SIZES[0], "[default: 4]", SIZES[1], SIZES[2], "[default: 10000]", SIZES[3])
-MORE = ("--endless", f"--{IDLE}", "--log")
+SIZES = (f"--{PLACES}", f"--{CLIENTS}", f"--{TOPICS}", f"--{MEMORY}", f"--{CONNECTIONS}")
+LIMITS = (SIZES[0], "[default: 4]", SIZES[1], SIZES[2], "[default: 10000]", *SIZES[3:])
+METRICS = "metrics <ADDRESS>"
+MORE = ("--endless", f"--{IDLE}", "--log", f"--{METRICS}")
 MISSING = "the following required arguments were not provided:"
 LOOPBACK = "listen --address 127.0.0.1:0"
 ONE = f"{LOOPBACK} --connections 1"
+
+# What is no size: no digits, other letters, none at all, or more than 64 bits hold.
+NO_SIZES = ("x", "M", "1m", "1MB", "1.5G", "+1", "0", "0K", 2**64, f"{2**34}G", f"{10**30}K")
 
 # Words after the program's name, with nothing to read.
 WORDS = {
@@ -129,11 +140,21 @@ WORDS = {
     f"{ONE} --clients 3": End(2, "", "error: --clients is less than --places\n"),
     f"{ONE} --clients 10001": invalid(10001, CLIENTS, "10001 is not in 1..=10000"),
     f"{ONE} --topics 0": invalid(0, TOPICS, "0 is not in 1..=65536"),
+    **{f"{ONE} --memory {size}": NO_SIZE for size in NO_SIZES},
+    f"{ONE} --memory": refused(f"a value is required for '--{MEMORY}' but none was supplied"),
+    f"{ONE} --memory 1 --memory 1": refused(
+        f"the argument '--{MEMORY}' cannot be used multiple times"
+    ),
+    f"{ONE} --metrics": refused(f"a value is required for '--{METRICS}' but none was supplied"),
+    f"{ONE} --metrics a --metrics a": refused(
+        f"the argument '--{METRICS}' cannot be used multiple times"
+    ),
     f"{ONE} --idle 0": invalid(0, IDLE, "0 is not in 1..=86400"),
     f"{ONE} --idle 86401": invalid(86401, IDLE, "86401 is not in 1..=86400"),
     f"{ONE} --idle x": invalid("x", IDLE, "invalid digit found in string"),
     f"{ONE} --idle 1 --idle 1": refused(f"the argument '--{IDLE}' cannot be used multiple times"),
     "listen --address nowhere --connections 1": NO_LISTENER,
+    f"{ONE} --metrics nowhere": NO_LISTENER,
     "pipe --at 0": End(0, ""),
     f"pipe --hex --at {2**64 - 1}": End(0, ""),
 }
@@ -235,6 +256,7 @@ def listening():
     with socket.create_server(("127.0.0.1", 0)) as other:
         address = f"127.0.0.1:{other.getsockname()[1]}"
         compare(f"listen --address {address} --connections 1", "", NO_LISTENER)
+        compare(f"{ONE} --metrics {address}", "", NO_LISTENER)
     with Server(places=1, connections=1) as server:
         Client(server).connect().disconnect()
         ended = server.ended()

@@ -8,6 +8,10 @@ from harness.patience import PATIENCE
 from harness.program import program
 
 
+# A host and a port that were bound.
+BOUND = r"([0-9.]+|\[[0-9a-f:]+\]):([0-9]+)\n"
+
+
 def start(address, *words, environment=None, errors=None, inside=()):
     """Starts the program as a server, with this added to the environment, by the command `inside`.
 
@@ -43,13 +47,18 @@ class Server:
             if value is not None:
                 words += [f"--{name}"] if value is True else [f"--{name}", str(value)]
         self.run = start(address, *words, environment=environment, errors=errors, inside=inside)
+        self.host, self.port = self.bound("listening")
+        if options.get("metrics"):
+            self.metrics = self.bound("metrics")
+
+    def bound(self, what):
+        """The host and the port that the next line says that it does this on."""
         line = self.run.stdout.readline()
-        numbers = r"rstored: listening on ([0-9.]+|\[[0-9a-f:]+\]):([0-9]+)\n"
-        bound = re.fullmatch(numbers, line)
-        if bound is None:
+        found = re.fullmatch(f"rstored: {what} on {BOUND}", line)
+        if found is None:
             self.stop()
-            raise RuntimeError(f"listen at {address!r} printed {line!r}")
-        self.host, self.port = bound[1].strip("[]"), int(bound[2])
+            raise RuntimeError(f"listen printed {line!r}, and not where it is {what}")
+        return found[1].strip("[]"), int(found[2])
 
     def __enter__(self):
         return self

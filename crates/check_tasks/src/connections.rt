@@ -8,7 +8,7 @@ use crate::groups::blanks;
 use kit_test::{CONNACK, CONNECT, Failure, check, concat, is_concat};
 use rs_places::run_store;
 use rs_places_pool::{NoWatch, Runner};
-use rs_places_turns::{Connection, EndedConnection, Turn};
+use rs_places_turns::{Connection, EndedConnection, FreeTurn, Turn};
 use rs_server::{Clock, Moments, ServeFault, Served, Tally};
 use rs_version::{StoreName, Told};
 use std::alloc::{AllocError, Global};
@@ -224,6 +224,8 @@ struct Publisher {
     /// How many entries they made at least, and at most.
     least: u64,
     most: u64,
+    /// How many entries its last connection knew.
+    version: u64,
     is_wrong: bool,
 }
 
@@ -274,7 +276,7 @@ impl Turn for Publisher {
     fn end<N: StoreName>(
         &mut self,
         ended: EndedConnection<VecDeque<u8>, Vec<u8>, Moments>,
-        _told: &Told<N>,
+        told: &Told<N>,
     )
         ensures { TakesBack none_given
             (ending_of (⟦<VecDeque<u8> as Read>⟧.remaining (inner_of ended.connection.input)) (⟦<Vec<u8> as Write>⟧.contents (inner_of ended.connection.output))
@@ -293,7 +295,10 @@ impl Turn for Publisher {
         let is_known = self.note(served, tally, &output);
         self.ended = self.ended.saturating_add(1);
         let is_last = place == 1 && number == self.given && number == self.ended;
-        self.is_wrong = self.is_wrong || !(is_known && is_last && none_failed);
+        // However it ended, its gate knows what the client was told is stored, and forgot nothing.
+        let is_older = told.version() < self.version.max(self.least);
+        self.version = told.version();
+        self.is_wrong = self.is_wrong || is_older || !(is_known && is_last && none_failed);
     }
 }
 
@@ -313,10 +318,11 @@ pub fn work<H: Wait + Threads + Copy + Send + Sync + 'static>(
         refused: 0,
         least: 0,
         most: 0,
+        version: 0,
         is_wrong: false,
     };
     let mut turns = Vec::new(alloc);
-    turns.push(turn)?;
+    turns.push(FreeTurn::new(turn))?;
     let runner = Runner::<NoWatch>::OneEach;
     let Ok(end) = run_store(*rt, alloc, blank, queue, turns, runner) else {
         return Err(Failure::NoMemory);

@@ -6,7 +6,7 @@ ghost use Rattle.rs_places_turns.specs.Turns.{TakesBack, none_given};
 
 use crate::script::Counts;
 use kit_test::{CONNACK, CONNECT, concat, is_concat};
-use rs_places_turns::{Connection, EndedConnection, Turn};
+use rs_places_turns::{Connection, EndedConnection, FreeTurn, Turn};
 use rs_server::{Clock, Moments, Served};
 use rs_version::{StoreName, Told};
 use std::alloc::{AllocError, Global};
@@ -23,7 +23,8 @@ const PUBACK: &[u8] = b"\x40\x02\x01\x01";
 const DISCONNECT: &[u8] = b"\xE0\x00";
 
 /// Gives a client of this place connections that each publish a message, and looks at each that has ended: that it comes under the
-/// number of the one that was given last, with its replies, how it ended, and a token of a longer list than that of the one before.
+/// number of the one that was given last, with its replies, how it ended, without a failure, and with a token of a longer list than that of
+/// the one before.
 #[derive(Drop)]
 pub struct Publisher {
     alloc: Global,
@@ -85,12 +86,13 @@ impl Turn for Publisher {
             number,
         } = ended;
         let is_told = served == Ok(Served::ClientClosed) && tally.packets == 3;
+        let has_failed = connection.input.failures() > 0 || connection.output.failures() > 0;
         let output = connection.output.into_inner();
         let is_last = place == self.place && number == self.given;
         // It knew its own entry, which the connection before it did not know.
         let is_newer = told.version() > self.version;
         self.version = told.version();
-        if is_last && is_newer && is_told && is_concat(&output, &[CONNACK, PUBACK]) {
+        if is_last && is_newer && is_told && !has_failed && is_concat(&output, &[CONNACK, PUBACK]) {
             self.counts.right.fetch_add(1, Ordering::SeqCst);
         }
     }
@@ -106,17 +108,18 @@ pub fn publishers(
     counts: &Arc<Counts>,
     clients: u16,
     each: u64,
-) -> Result<Vec<Publisher>, AllocError> {
+) -> Result<Vec<FreeTurn<Publisher>>, AllocError> {
     let mut turns = Vec::with_capacity(alloc, usize::from(clients))?;
     for place in 1..=clients {
-        turns.push(Publisher {
+        let turn = Publisher {
             alloc,
             counts: Arc::try_clone(counts)?,
             place,
             each,
             given: 0,
             version: 0,
-        })?;
+        };
+        turns.push(FreeTurn::new(turn))?;
     }
     Ok(turns)
 }

@@ -1,13 +1,13 @@
 //! A run of a store over connections from memory.
 
 use crate::rows::{Row, put_rows, scripts};
-use crate::script::Counts;
+use crate::script::{Counts, Input, Script, free_scripts};
 use kit_test::blank_store;
 use rs_intake::{Cause, blank_queue};
 use rs_message::{LineCount, MAX_LINES, PlaceCount};
 use rs_places::{StoreEnd, run_store};
 use rs_places_pool::{NoWatch, Runner, Watch};
-use rs_places_turns::Turn;
+use rs_places_turns::{FreeTurn, Turn};
 use std::alloc::Global;
 use std::sync::atomic::Ordering;
 use std::sync::{Arc, Wait};
@@ -59,7 +59,7 @@ pub fn run<
     rt: R,
     alloc: Global,
     (topics, seats): (u32, u8),
-    turns: Vec<T>,
+    turns: Vec<FreeTurn<T>>,
     counts: &Counts,
     runner: Runner<W>,
 ) -> Result<Played, Fail>
@@ -80,6 +80,22 @@ where
     Ok(outcome(&end, counts))
 }
 
+/// The same with scripts, of which no connection is out.
+pub fn run_scripts<
+    R: Threads + Wait + Copy + Send + Sync + 'static,
+    W: Watch<Input> + Send + Sync + Drop + 'static,
+>(
+    rt: R,
+    alloc: Global,
+    store: (u32, u8),
+    turns: Vec<Script>,
+    counts: &Counts,
+    runner: Runner<W>,
+) -> Result<Played, Fail> {
+    let turns = free_scripts(alloc, turns)?;
+    run(rt, alloc, store, turns, counts, runner)
+}
+
 /// Runs a store of so many topics and places over these connections, with a thread and a seat for each place.
 pub fn play<R: Threads + Wait + Copy + Send + Sync + 'static>(
     rt: R,
@@ -92,5 +108,5 @@ pub fn play<R: Threads + Wait + Copy + Send + Sync + 'static>(
     let mut turns = scripts(alloc, &counts, places)?;
     put_rows(alloc, turns.as_mut_slice(), rows)?;
     let runner = Runner::<NoWatch>::OneEach;
-    run(rt, alloc, (topics, places), turns, &counts, runner)
+    run_scripts(rt, alloc, (topics, places), turns, &counts, runner)
 }

@@ -5,7 +5,7 @@ ghost use Rattle.rs_places_turns.specs.Ended.{ending_of};
 ghost use Rattle.rs_places_turns.specs.Turns.{TakesBack, none_given};
 
 use kit_test::{Behavior, CONNACK, FaultyStream, ServeResult, is_concat};
-use rs_places_turns::{Connection, EndedConnection, Turn};
+use rs_places_turns::{Connection, EndedConnection, FreeTurn, Turn};
 use rs_server::{Clock, ServeFault, Served};
 use rs_version::{StoreName, Told};
 use std::alloc::{AllocError, Global};
@@ -283,4 +283,20 @@ impl Turn for Script {
         }
         self.counts.ended.fetch_add(1, Ordering::SeqCst);
     }
+}
+
+/// The same turns, of which no connection is out.
+///
+/// # Errors
+///
+/// [`AllocError`] if memory is refused.
+pub fn free_scripts(
+    alloc: Global,
+    turns: Vec<Script>,
+) -> Result<Vec<FreeTurn<Script>>, AllocError> {
+    let mut free = Vec::with_capacity(alloc, turns.len())?;
+    for turn in turns {
+        free.push(FreeTurn::new(turn))?;
+    }
+    Ok(free)
 }

@@ -21,6 +21,7 @@ use rs_intake_line::{
 use rs_intake_queue::steps::cut;
 use rs_intake_queue::{Job, JobReceiver, JobSender, MAX_CHANGES, PassView, Polls, QueueRule};
 use rs_message::{LineCount, MAX_PLACES};
+use rs_metrics::{Meter, Metrics, WriterMeter};
 use std::alloc::{AllocError, Global};
 use std::marker::Model;
 use std::sync::Arc;
@@ -34,6 +35,7 @@ pub struct BlankQueue {
     lines: LineCount,
     fullness: Arc<Fullness>,
     polls: Polls,
+    metrics: Option<Arc<Metrics>>,
     alloc: Global,
 }
 
@@ -72,6 +74,7 @@ pub fn blank_queue(alloc: Global, lines: LineCount) -> Result<BlankQueue, AllocE
         lines,
         fullness,
         polls: Polls::untimed(),
+        metrics: None,
         alloc,
     })
 }
@@ -96,6 +99,7 @@ fn line<N: LineName>(
     place: u16,
     polls: Polls,
     fewest: usize,
+    meter: Meter,
 ) -> Result<(SeatLine<N>, ReplySender<N>), AllocError>
     requires queue { IsQueue N.queue (sends_on sender.now) × IsIn N.queue pass.old }
     requires pass { ((known_by pass.old).takes ≡ true) × ((known_by pass.old).sends ≡ false) × ((known_by pass.old).known ≡ [])
@@ -111,7 +115,7 @@ fn line<N: LineName>(
 {
     let (to, from) = way_back(alloc, polls, fewest)?;
     let own = sender.try_clone()?;
-    let line = LineSender::new(place, own, cut(sender, pass));
+    let line = LineSender::new(place, own, cut(sender, pass), meter);
     Ok((SeatLine::new(alloc, line, from), to))
 }
 
@@ -136,6 +140,7 @@ impl BlankQueue {
             lines,
             fullness,
             polls: _,
+            metrics,
             alloc,
         } = self;
         BlankQueue {
@@ -145,6 +150,33 @@ impl BlankQueue {
             lines,
             fullness,
             polls,
+            metrics,
+            alloc,
+        }
+    }
+
+    /// The same queue, whose lines and whose writer count there what passes. Without metrics they count nothing.
+    pub fn with_metrics(self, metrics: Option<Arc<Metrics>>) -> BlankQueue
+        ensures { result ≡ self }
+    {
+        let BlankQueue {
+            sender,
+            receiver,
+            pass,
+            lines,
+            fullness,
+            polls,
+            metrics: _before,
+            alloc,
+        } = self;
+        BlankQueue {
+            sender,
+            receiver,
+            pass,
+            lines,
+            fullness,
+            polls,
+            metrics,
             alloc,
         }
     }
@@ -167,6 +199,7 @@ impl BlankQueue {
             lines,
             fullness,
             polls,
+            metrics,
             alloc,
         } = self;
         let count = lines.get();
@@ -174,7 +207,16 @@ impl BlankQueue {
         let mut lines = Vec::new(alloc);
         let mut replies = Vec::new(alloc);
         for before in 0..count {
-            let (line, to) = line::<N>(alloc, &sender, &mut pass, before + 1, polls, fewest)?;
+            let meter = Meter::new(&metrics, before + 1)?;
+            let (line, to) = line::<N>(
+                alloc,
+                &sender,
+                &mut pass,
+                before + 1,
+                polls,
+                fewest,
+                meter,
+            )?;
             lines.push(line).map_err(|_| AllocError)?;
             replies.push(to).map_err(|_| AllocError)?;
         }
@@ -184,6 +226,7 @@ impl BlankQueue {
             Taken::new(count, pass),
             WaysBack::new(alloc, replies, ends, FullnessWriter::new(fullness)),
             polls,
+            WriterMeter::new(metrics),
         );
         Ok((Intake::new(), lines, queue))
     }

@@ -1,17 +1,14 @@
-//! The writer's loop over the queue.
+//! A writer at its queue, and the steps that it makes.
 
 ghost use Rattle.std.specs.Prelude.{◌≡◌, ◌+◌, ◌<◌, ◌≤◌, ◌^◌, ◌⊎◌, [], length, replicate, IfNone, IfSome, MatchBool, Some};
 ghost use Rattle.std.specs.Option.{option_map};
 ghost use Rattle.crossbeam_channel.specs.Ends.{receives_on};
 ghost use Rattle.rs_version.specs.Writer.{kept_of};
-ghost use Rattle.rs_intake_line.specs.Done.{IsWritten, untold};
+ghost use Rattle.rs_intake_line.specs.Done.{untold};
 ghost use Rattle.rs_intake.specs.Causes.{HaveEnded, IsCause};
 ghost use Rattle.rs_intake.specs.declared.cause.Cause.TheVariants.{MostTaken};
 ghost use Rattle.rs_intake_line.specs.Names.{IsQueue};
-ghost use Rattle.rs_intake_queue.specs.Parts.{IsPart};
-ghost use Rattle.rs_intake.specs.Settling.{AreOfPlaces};
 ghost use Rattle.rs_intake.specs.Writers.{IsStepBefore, IsUnderWay};
-ghost use Rattle.rs_intake_line.specs.Sweeps.{AreForEntries, without_sweeps};
 ghost use Rattle.rs_intake_queue.specs.declared.job.TheConstants.{MAX_CHANGES};
 ghost use Rattle.rs_intake_line.specs.declared.reply.TheConstants.{FEW_REPLIES};
 
@@ -21,6 +18,7 @@ use crate::ways_back::WaysBack;
 use rs_intake_line::{FEW_REPLIES, LineName, WayEnd};
 use rs_intake_queue::{Job, JobReceiver, MAX_CHANGES, Patience, Polls};
 use rs_message::Origin;
+use rs_metrics::WriterMeter;
 use rs_version::VersionWriter;
 use std::marker::Model;
 use std::sync::Wait;
@@ -32,6 +30,7 @@ pub struct Queue<N: LineName> {
     received: Taken<N>,
     ways: WaysBack<N>,
     patience: Patience,
+    meter: WriterMeter,
     ghost queue: { IsQueue N.queue (receives_on receiver) },
     ghost new: { (received.entries ≡ []) × (received.ends ≡ []) },
     ghost lines: { ways.senders.items ≡ replicate N.places untold },
@@ -43,6 +42,7 @@ impl<N: LineName> Queue<N> {
         received: Taken<N>,
         ways: WaysBack<N>,
         polls: Polls,
+        meter: WriterMeter,
     ) -> Queue<N>
         requires queue { IsQueue N.queue (receives_on receiver) }
         requires new { (received.entries ≡ []) × (received.ends ≡ []) }
@@ -53,11 +53,12 @@ impl<N: LineName> Queue<N> {
             received,
             ways,
             patience: Patience::new(polls.writer),
+            meter,
         }
     }
 }
 
-/// What [`run_writer`] leaves.
+/// What [`run_writer`](crate::run_writer) leaves.
 #[derive(Drop)]
 pub struct Ended<N: LineName, R: Wait + Drop> {
     /// The writer.
@@ -123,6 +124,22 @@ fn replies_at_once(patience: &Patience) -> usize
     }
 }
 
+/// Shows what the writer has published, and how many changes it took.
+fn show<N: LineName, R: Wait + Drop>(
+    meter: &WriterMeter,
+    writer: &VersionWriter<N, R>,
+    taken: u64,
+) {
+    if meter.is_needed() {
+        meter.set_content(
+            writer.tell().version(),
+            u64::from(writer.topics()),
+            writer.bytes(),
+        );
+        meter.set_taken(taken);
+    }
+}
+
 /// A writer at its queue. It takes one job at a time. Contracts see what it published and holds, what it took, what it sent by the ways back,
 /// and how many entries it took and refused.
 ///
@@ -135,6 +152,7 @@ pub struct JobWriter<N: LineName, R: Wait + Drop> {
     received: Taken<N>,
     ways: WaysBack<N>,
     patience: Patience,
+    meter: WriterMeter,
     taken: u64,
     refused: u64,
     // How many places have not ended.
@@ -171,14 +189,17 @@ impl<N: LineName, R: Wait + Drop> JobWriter<N, R> {
             received,
             ways,
             patience,
+            meter,
         } = queue;
         let left = received.places();
+        meter.set_taking(true);
         JobWriter {
             writer,
             receiver,
             received,
             ways,
             patience,
+            meter,
             taken: 0,
             refused: 0,
             left,
@@ -214,6 +235,7 @@ impl<N: LineName, R: Wait + Drop> JobWriter<N, R> {
                 let at_once = replies_at_once(&self.patience);
                 let count = self.ways.put_job(rt, &mut self.writer, changes, at_once);
                 self.refused += count;
+                show(&self.meter, &self.writer, self.taken);
                 None
             }
             Ok(Job::End(_)) => {
@@ -242,71 +264,13 @@ impl<N: LineName, R: Wait + Drop> JobWriter<N, R> {
             received,
             ways,
             patience: _,
+            meter,
             taken,
             refused,
             left: _,
         } = self;
         drop(writer.retry());
+        meter.set_taking(false);
         Ended::new(writer, taken, refused, received, cause, ways.end())
     }
-}
-
-/// Puts the changes of each job that it takes, one after the other, and sends the job's line a reply to each. Behind a change
-/// that is held the others of its job are refused. It ends when ([`Cause`])
-///
-/// - each place has ended,
-/// - the receive of a job fails, or
-/// - it has taken so many entries that one more job could have more than can be counted.
-///
-/// Then it tries once more to publish a held entry, of which no clause speaks.
-///
-/// The contract says what became of each entry that was asked for (`done`). It makes no difference which of them came in one job. There
-/// is one outcome for each entry that was taken, in their order. After a receipt, or if the entry is held, the kept list is
-/// the one before, then the Sweep that the entry needs, if it needs one, then the entry. After a full store the list is the same, and the
-/// entry may not come. If memory was refused, the list is the same, or has the Sweep that the entry needs. So what the writer keeps,
-/// without its Sweeps, is the entries that were not refused, in their order (`IsWritten`), and each Sweep is the one that one of these
-/// entries needed there (`sweeps`). By the way back to each place, the replies to its entries were sent, in their order: all of them,
-/// unless a send failed, and then a prefix. No entry is of a place beyond 1 to the number of places (`placed`).
-pub fn run_writer<N: LineName, R: Wait + Drop, W: Wait>(
-    rt: &W,
-    queue: Queue<N>,
-    writer: VersionWriter<N, R>,
-) -> Ended<N, R>
-    requires empty { kept_of writer ≡ [] }
-    ensures part { IsPart (without_sweeps (kept_of result.writer)) result.received.entries }
-    ensures placed { AreOfPlaces N.places result.received.entries }
-    ensures taken { result.taken ≡ length result.received.entries }
-    ensures refused { length (without_sweeps (kept_of result.writer)) + result.refused ≡ result.taken }
-    ensures sweeps { AreForEntries N.limit result.received.entries (kept_of result.writer) }
-    ensures held { result.held ≡ option_map (λ e. e.origin) result.writer.held }
-    ensures done { IsWritten N.limit N.places result.received.entries (kept_of result.writer) result.ways.items }
-    ensures cause { IsCause N.places u64.MAX result.received result.cause }
-{
-    run_writer_for(rt, queue, writer, u64::MAX)
-}
-
-/// The same, but it ends once at least `most` entries were taken, too. Then the queue is dropped, and with it the jobs that wait there.
-pub fn run_writer_for<N: LineName, R: Wait + Drop, W: Wait>(
-    rt: &W,
-    queue: Queue<N>,
-    writer: VersionWriter<N, R>,
-    most: u64,
-) -> Ended<N, R>
-    requires empty { kept_of writer ≡ [] }
-    ensures part { IsPart (without_sweeps (kept_of result.writer)) result.received.entries }
-    ensures placed { AreOfPlaces N.places result.received.entries }
-    ensures taken { result.taken ≡ length result.received.entries }
-    ensures refused { length (without_sweeps (kept_of result.writer)) + result.refused ≡ result.taken }
-    ensures sweeps { AreForEntries N.limit result.received.entries (kept_of result.writer) }
-    ensures held { result.held ≡ option_map (λ e. e.origin) result.writer.held }
-    ensures done { IsWritten N.limit N.places result.received.entries (kept_of result.writer) result.ways.items }
-    ensures cause { IsCause N.places most result.received result.cause }
-{
-    let mut writer = JobWriter::new(queue, writer);
-    for _ in rt.forever() {
-        if let Some(cause) = writer.step(rt, most) {
-            return writer.end(cause);
-        }
-    }
-    unreachable!()
 }

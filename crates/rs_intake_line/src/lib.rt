@@ -15,7 +15,7 @@ mod line;
 mod name;
 mod reply;
 
-pub use fullness::{Fullness, FullnessWriter};
+pub use fullness::{Fullness, FullnessWriter, Lack};
 pub use intake::{Intake, read_reply};
 pub use line::{LineEnd, LineSender, SeatLine};
 pub use name::LineName;

@@ -26,6 +26,7 @@ use crossbeam_channel::Pass;
 use rs_intake_queue::steps::send;
 use rs_intake_queue::{Changes, Gone, Job, JobSender, MAX_CHANGES, PassView, prepare_one};
 use rs_message::{Entry, Operation, Origin, SubmitFault, is_same};
+use rs_metrics::Meter;
 use std::alloc::Global;
 use std::marker::{Model, PhantomData};
 use std::sync::Wait;
@@ -37,6 +38,7 @@ pub struct LineSender<N: LineName> {
     sent: u64,
     sender: JobSender,
     pass: Pass<Job, PassView>,
+    meter: Meter,
     of: PhantomData<N>,
 }
 
@@ -65,8 +67,13 @@ impl<N: LineName> LineSender<N> {
         self.place
     }
 
-    /// A line that sent nothing, by its sender and its pass.
-    pub fn new(place: u16, sender: JobSender, pass: Pass<Job, PassView>) -> LineSender<N>
+    /// A line that sent nothing, by its sender and its pass. `meter` counts what it sends.
+    pub fn new(
+        place: u16,
+        sender: JobSender,
+        pass: Pass<Job, PassView>,
+        meter: Meter,
+    ) -> LineSender<N>
         requires queue { IsQueue N.queue (sends_on sender) × IsIn N.queue pass }
         requires new { ((known_by pass).sends ≡ true) × ((known_by pass).takes ≡ false) × ((known_by pass).from ≡ place)
             × ((known_by pass).entries ≡ []) × ((known_by pass).ends ≡ []) }
@@ -78,6 +85,7 @@ impl<N: LineName> LineSender<N> {
             sent: 0,
             sender,
             pass,
+            meter,
             of: PhantomData,
         }
     }
@@ -91,12 +99,17 @@ impl<N: LineName> LineSender<N> {
         ensures sent { MatchBool result (self.new.sent ≡ self.old.sent ++ changes) (self.new.sent ≡ self.old.sent) }
     {
         let count = changes.len() as u64;
+        // Before, so that the writer takes no change that was not counted.
+        self.meter.add_sent(count);
         match send(rt, &self.sender, &mut self.pass, Job::Put(changes)) {
             Ok(()) => {
                 self.sent += count;
                 true
             }
-            Err(_) => false,
+            Err(_) => {
+                self.meter.take_back_sent(count);
+                false
+            }
         }
     }
 
@@ -109,6 +122,7 @@ impl<N: LineName> LineSender<N> {
             sent,
             sender,
             mut pass,
+            meter: _meter,
             of,
         } = self;
         let gone = match send(rt, &sender, &mut pass, Job::End(place)) {
@@ -252,6 +266,11 @@ impl<N: LineName> SeatLine<N> {
         ensures small { result ≤ MAX_LINES }
     {
         self.line.place()
+    }
+
+    /// What counts for this line.
+    pub fn meter(&self) -> &Meter {
+        &self.line.meter
     }
 
     /// The last serial that was submitted, 0 at first.

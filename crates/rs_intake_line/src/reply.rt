@@ -144,14 +144,19 @@ impl<N: StoreName> WriterReplies<N> {
         }
     }
 
-    /// Tells what the outcomes say of whether the store is full.
+    /// Tells what the outcomes say of what the store lacks.
     pub fn show(&self, fullness: &mut FullnessWriter) {
         match &self.replies {
             Replies::One(Some(reply)) => fullness.note(&reply.outcome),
             Replies::One(None) => {}
-            Replies::Many(made, _) => {
+            Replies::Many(made, refused) => {
                 for reply in made.iter() {
                     fullness.note(&reply.outcome);
+                }
+                if !refused.is_empty() {
+                    // Refused: the memory for these replies.
+                    let outcome: Result<Receipt<N>, PutFault> = Err(PutFault::NoMemory);
+                    fullness.note(&outcome);
                 }
             }
         }

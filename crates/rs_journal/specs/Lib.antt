@@ -1,4 +1,11 @@
+pub mod Pages
+pub mod Images
+pub mod OpenFaults
+pub mod Streams
+pub mod StreamLaw
 pub mod Frames
 pub mod Journals
+pub mod Opening
 pub mod Writing
+pub mod Retaining
 pub mod Law

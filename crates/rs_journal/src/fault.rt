@@ -2,13 +2,15 @@
 
 ghost use Rattle.std.specs.Prelude.{◌≡◌};
 ghost use Rattle.rs_journal.specs.declared.fault.ReadFault.TheVariants.{NoMemory};
+ghost use Rattle.rs_journal.specs.Opening.{fault_of, fault_of_record};
 
-use rs_journal_pages::{Error, OpenFault};
+use crate::pages::OpenFault;
 use rs_journal_record::RecordFault;
+use sqlite_pager::Error;
 use std::alloc::AllocError;
 use thiserror::Error as ErrorMessage;
 
-/// Why operations are not read.
+/// Why operations are not read. The files have what they had.
 #[derive(Clone, Copy, Debug, ErrorMessage)]
 pub enum ReadFault {
     /// The files were not opened.
@@ -45,6 +47,8 @@ impl From<AllocError> for ReadFault {
 }
 
 impl From<Error> for ReadFault {
+    ghost from_gives = { λ e r. r ≡ fault_of e };
+
     fn from(error: Error) -> ReadFault {
         match error {
             Error::OutOfMemory => ReadFault::NoMemory,
@@ -54,6 +58,8 @@ impl From<Error> for ReadFault {
 }
 
 impl From<RecordFault> for ReadFault {
+    ghost from_gives = { λ e r. r ≡ fault_of_record e };
+
     fn from(fault: RecordFault) -> ReadFault {
         match fault {
             RecordFault::NoMemory => ReadFault::NoMemory,

@@ -4,15 +4,19 @@ ghost use Rattle.std.specs.Prelude.{◌≡◌, ◌⊎◌, ◌++◌, ◌∷◌, [
 ghost use Rattle.sqlite_wal.specs.Recovery.{Image};
 ghost use Rattle.rs_message.specs.declared.entry.Operation.{Operation as Kept};
 ghost use Rattle.rs_journal_record.specs.Records.{IsOperation};
+ghost use Rattle.rs_journal.specs.Opening.{Explains, IsRefusal, IsWrong};
+ghost use Rattle.rs_journal.specs.Retaining.{Retains, sets_of};
 ghost use Rattle.rs_journal.specs.Writing.{IsRefused};
 
 use crate::fault::{ReadFault, WriteFault};
+use crate::pages::{OpenFault, PageStream};
 use crate::reading::{drop_front, read_frames};
+use crate::retained::Retained;
 use crate::sink::OperationSink;
-use rs_journal_pages::{Error, OpenFault, PageStream};
 use rs_journal_record::put_record;
-use rs_message::Operation;
+use rs_message::{Found, Operation};
 use sqlite_disk::{Disk, Files};
+use sqlite_pager::Error;
 use std::alloc::{AllocFailed, Global};
 
 /// Operations that are kept in two files. What is pushed is seen at once, and stands from the commit on.
@@ -25,8 +29,8 @@ pub struct Journal<D: Disk> {
 }
 
 impl<D: Disk> Journal<D> {
-    ghost use Rattle.rs_journal.specs.Journals.{may_leave, image, AreUsable, IsClean, IsOpen, files_of, Keeps, StandsFor, EachStandsForOne, AddsNoOutcome, Holds, Rests};
-    ghost use Rattle.rs_journal_pages.specs.Streams.{Rests as RestsStream, Stands as StandsStream};
+    ghost use Rattle.rs_journal.specs.Journals.{may_leave, image, page_count, log_len, AreUsable, HasSpilled, IsClean, IsOpen, IsUnmade, files_of, Keeps, StandsFor, EachStandsForOne, AddsNoOutcome, Holds, Rests, StaysClosed};
+    ghost use Rattle.rs_journal.specs.Streams.{Rests as RestsStream, Stands as StandsStream};
     ghost use Rattle.rs_journal.specs.Frames.{frames};
 
     /// A journal over these files, which [`open`](Journal::open) has to read first. The seed is any number that no earlier opening
@@ -38,7 +42,9 @@ impl<D: Disk> Journal<D> {
     ) -> Result<Journal<D>, AllocFailed<Files<D>>>
         requires { IsTrue (D.Disk.is_usable files.log) × IsTrue (D.Disk.is_usable files.db) }
         ensures back { IfErr result (λ e. e.value ≡ files) }
+        ensures over { IfOk result (λ it. files_of it ≡ (files.log, files.db)) }
         ensures usable { IfOk result AreUsable }
+        ensures closed { IfOk result (λ it. ¬ IsOpen it) }
     {
         let stream = PageStream::new(alloc, files, seed)?;
         Ok(Journal {
@@ -48,11 +54,25 @@ impl<D: Disk> Journal<D> {
         })
     }
 
-    /// Whether it was opened, and nothing has failed since that asks for a new opening.
+    /// Whether the last opening succeeded, and nothing has failed since that asks for a new one.
     pub fn is_open(&self) -> bool
         ensures { IsTrue result ↔ IsOpen self.now }
     {
         self.stream.is_open()
+    }
+
+    /// How many pages of 1,024 bytes its operations take. If they are many more than what is retained takes,
+    /// [`shorten`](Journal::shorten) it.
+    pub fn page_count(&self) -> u32
+        ensures { result ≡ page_count self.now }
+    {
+        self.stream.page_count()
+    }
+
+    /// Whether the log has grown so long that a [`checkpoint`](Journal::checkpoint) is due. True after an opening, since the log may be
+    /// long from before.
+    pub fn is_log_long(&self) -> bool {
+        self.stream.is_log_long()
     }
 
     /// Gives the files back. What is not committed is lost.
@@ -68,12 +88,17 @@ impl<D: Disk> Journal<D> {
     }
 
     /// Opens the journal and hands on the operations that its files stand for, a page's worth at a time. A crash on the way leaves what
-    /// they stood for.
+    /// they stood for. Files in which anything was made keep it, whatever comes of this. If it fails, the sink may have some of the
+    /// operations, and the journal is closed: each call but an opening refuses, and does not touch the files.
     pub fn open<S: OperationSink>(&mut self, sink: &mut S) -> Result<(), ReadFault>
         requires { AreUsable self.old }
-        ensures found { OnOk result ((operations : List Kept) × (S.taken sink.new ≡ S.taken sink.old ++ operations) × All IsOperation operations
+        ensures found { OnOk result ((operations : List Kept) × ((before : List Kept) → S.has_taken sink.old before → S.has_taken sink.new (before ++ operations)) × All IsOperation operations
             × (IsClean self.new → StandsFor (image self.old) operations) × Rests self.new operations) }
         ensures open { OnOk result (IsOpen self.new) }
+        ensures closed { OnErr result (¬ IsOpen self.new) }
+        ensures refused { IfErr result (λ e. IsRefusal e → IsClean self.new → (operations : List Kept) → All IsOperation operations → ¬ StandsFor (image self.old) operations) }
+        ensures named { IfErr result (λ e. IsClean self.new → Explains e (image self.old)) }
+        ensures untouched { ¬ IsUnmade (image self.old) → AddsNoOutcome self.old self.new }
         ensures crash { (lists : List (List Kept)) → EachStandsForOne (may_leave self.old) lists → EachStandsForOne (may_leave self.new) lists }
     {
         if let Err(fault) = self.stream.open() {
@@ -81,17 +106,28 @@ impl<D: Disk> Journal<D> {
         }
         match self.read_stream(sink) {
             Ok(()) => Ok(()),
-            Err(fault) => Err(fault),
+            Err(fault) => {
+                self.stream.shut();
+                Err(fault)
+            }
         }
     }
 
-    /// Hands on the operations that stand, once more. What was pushed since the last commit is forgotten.
+    /// Hands on the operations that stand, once more. What was pushed since the last commit is forgotten. A closed journal refuses it.
     pub fn read_again<S: OperationSink>(&mut self, sink: &mut S) -> Result<(), ReadFault>
-        ensures read { OnOk result ((operations : List Kept) × (S.taken sink.new ≡ S.taken sink.old ++ operations)
-            × ((standing seen : List Kept) → Holds self.old standing seen → All IsOperation standing → IsOpen self.old → IsClean self.new → operations ≡ standing)) }
+        ensures open { OnOk result (IsOpen self.old) }
+        ensures closed { ¬ IsOpen self.old → StaysClosed self.old self.new }
+        ensures read { OnOk result ((operations : List Kept) × ((before : List Kept) → S.has_taken sink.old before → S.has_taken sink.new (before ++ operations))
+            × ((standing seen : List Kept) → Holds self.old standing seen → All IsOperation standing → IsClean self.new → operations ≡ standing)) }
+        ensures refused { IfErr result (λ e. IsRefusal e → IsClean self.new → (standing seen : List Kept) → Holds self.old standing seen → ¬ All IsOperation standing) }
+        ensures named { IfErr result (λ e. IsClean self.new → (standing seen : List Kept) → Holds self.old standing seen → IsWrong e (frames standing)) }
         ensures rests { (standing seen : List Kept) → Holds self.old standing seen → Rests self.new standing }
+        ensures crash { AddsNoOutcome self.old self.new }
     {
         self.stream.rollback();
+        if !self.stream.is_open() {
+            return Err(ReadFault::Disk(Error::Closed));
+        }
         match self.read_stream(sink) {
             Ok(()) => Ok(()),
             Err(fault) => Err(fault),
@@ -100,11 +136,13 @@ impl<D: Disk> Journal<D> {
 
     /// Hands on the operations whose frames the stream is.
     fn read_stream<S: OperationSink>(&mut self, sink: &mut S) -> Result<(), ReadFault>
-        ensures read { OnOk result ((operations : List Kept) × (S.taken sink.new ≡ S.taken sink.old ++ operations) × All IsOperation operations
+        ensures read { OnOk result ((operations : List Kept) × ((before : List Kept) → S.has_taken sink.old before → S.has_taken sink.new (before ++ operations)) × All IsOperation operations
             × ((standing : List ℕ) → RestsStream self.old.stream standing → IsOpen self.old → IsClean self.new → standing ≡ frames operations)) }
         ensures rests { (standing : List ℕ) → RestsStream self.old.stream standing → RestsStream self.new.stream standing }
         ensures open { IsOpen self.old → IsOpen self.new }
         ensures clean { IsClean self.new → IsClean self.old }
+        ensures refused { IfErr result (λ e. (standing : List ℕ) → RestsStream self.old.stream standing → IsOpen self.old → IsClean self.new → IsWrong e standing) }
+        ensures crash { AddsNoOutcome self.old self.new }
     {
         let mut bytes = Vec::new(self.alloc);
         for index in 0..self.stream.page_count() {
@@ -120,6 +158,7 @@ impl<D: Disk> Journal<D> {
 
     /// Forgets what was pushed since the last commit.
     pub fn rollback(&mut self)
+        ensures closed { ¬ IsOpen self.old → StaysClosed self.old self.new }
         ensures rests { (standing seen : List Kept) → Holds self.old standing seen → Rests self.new standing }
         ensures crash { AddsNoOutcome self.old self.new }
     {
@@ -127,10 +166,12 @@ impl<D: Disk> Journal<D> {
     }
 
     /// Begins anew: what is pushed from here on is all that is seen, and stands from the commit on. What was pushed since the last commit
-    /// is forgotten. So a journal that has grown long is made short: begin anew, push what is retained, commit.
+    /// is forgotten.
     pub fn begin_anew(&mut self) -> Result<(), WriteFault>
         ensures open { OnOk result (IsOpen self.old) }
+        ensures closed { ¬ IsOpen self.old → StaysClosed self.old self.new }
         ensures begun { OnOk result ((standing seen : List Kept) → Holds self.old standing seen → Holds self.new standing []) }
+        ensures kind { IfErr result IsRefused }
         ensures refused { OnErr result ((standing seen : List Kept) → Holds self.old standing seen → Rests self.new standing) }
         ensures crash { AddsNoOutcome self.old self.new }
     {
@@ -143,6 +184,7 @@ impl<D: Disk> Journal<D> {
     /// Pushes the frame of an operation. At an error some of it may be pushed.
     fn push_frame(&mut self, operation: &Operation) -> Result<(), Error>
         ensures open { OnOk result (IsOpen self.old) }
+        ensures closed { ¬ IsOpen self.old → StaysClosed self.old self.new }
         ensures fits { OnOk result (IsOperation operation.now) }
         ensures pushed { OnOk result ((standing seen : List Kept) → Holds self.old standing seen → Holds self.new standing (seen ++ operation.now ∷ [])) }
         ensures stands { (standing seen : List Kept) → Holds self.old standing seen → StandsStream self.new.stream (frames standing) }
@@ -150,9 +192,6 @@ impl<D: Disk> Journal<D> {
     {
         self.record.clear();
         put_record(&mut self.record, operation)?;
-        if self.record.len() > u32::MAX as usize {
-            return Err(Error::OutOfMemory);
-        }
         let len = self.record.len() as u32;
         self.stream.push(&len.to_be_bytes())?;
         self.stream.push(&self.record)?;
@@ -162,8 +201,10 @@ impl<D: Disk> Journal<D> {
     /// Pushes an operation behind what is seen. At an error what was pushed since the last commit is forgotten.
     pub fn push(&mut self, operation: &Operation) -> Result<(), WriteFault>
         ensures open { OnOk result (IsOpen self.old) }
+        ensures closed { ¬ IsOpen self.old → StaysClosed self.old self.new }
         ensures fits { OnOk result (IsOperation operation.now) }
         ensures pushed { OnOk result ((standing seen : List Kept) → Holds self.old standing seen → Holds self.new standing (seen ++ operation.now ∷ [])) }
+        ensures kind { IfErr result IsRefused }
         ensures refused { OnErr result ((standing seen : List Kept) → Holds self.old standing seen → Rests self.new standing) }
         ensures crash { AddsNoOutcome self.old self.new }
     {
@@ -177,14 +218,21 @@ impl<D: Disk> Journal<D> {
     }
 
     /// Makes what is seen what stands. `Refused`: what was pushed is forgotten, and no crash brings it back. `Doubtful`: a crash leaves
-    /// the one or the other, and the journal is closed: from then on each of these calls refuses, and no crash leaves more than before.
+    /// the one or the other, and the journal, which was open, is closed: from then on each call but an opening refuses, and does not touch
+    /// the files.
     pub fn commit(&mut self) -> Result<(), WriteFault>
         ensures open { OnOk result (IsOpen self.old) }
-        ensures closed { ¬ IsOpen self.old → AddsNoOutcome self.old self.new }
+        ensures closed { ¬ IsOpen self.old → StaysClosed self.old self.new }
+        ensures answer { ¬ IsOpen self.old → result ≡ Err (WriteFault.Refused Error.Closed) }
         ensures done { OnOk result ((standing seen : List Kept) → Holds self.old standing seen → Rests self.new seen) }
+        ensures doubtful { IfErr result (λ e. ¬ IsRefused e → IsOpen self.old × ¬ IsOpen self.new) }
         ensures refused { IfErr result (λ e. IsRefused e → (standing seen : List Kept) → Holds self.old standing seen → Rests self.new standing) }
         ensures crash { (standing seen : List Kept) → Holds self.old standing seen → (left : Image) → may_leave self.new left → Keeps left standing ⊎ Keeps left seen }
     {
+        if !self.stream.is_open() {
+            self.stream.rollback();
+            return Err(WriteFault::Refused(Error::Closed));
+        }
         match self.stream.commit() {
             Ok(()) => Ok(()),
             Err(error) => {
@@ -197,9 +245,53 @@ impl<D: Disk> Journal<D> {
         }
     }
 
-    /// Copies what is committed from the log into the file of pages, so that the next commit begins the log anew. A commit that finds the
-    /// log long does so by itself.
+    /// Pushes a Set of each of these messages. At an error some of them are pushed.
+    fn push_sets(&mut self, retained: &Retained) -> Result<(), Error>
+        ensures pushed { OnOk result ((standing seen : List Kept) → Holds self.old standing seen → Holds self.new standing (seen ++ sets_of retained.now)) }
+        ensures leave { OnOk result (Retains retained.now (sets_of retained.now)) }
+        ensures stands { (standing seen : List Kept) → Holds self.old standing seen → StandsStream self.new.stream (frames standing) }
+        ensures crash { AddsNoOutcome self.old self.new }
+    {
+        for (topic, message) in &retained.messages {
+            let found = Found::new(self.alloc, topic.copy()?, message.copy()?)?;
+            self.push_frame(&Operation::Set(found))?;
+        }
+        Ok(())
+    }
+
+    /// Makes a long journal short: in one commit, a Set of each of these messages takes the place of all operations. What was pushed
+    /// since the last commit is forgotten. If the messages are those that are retained, which [`read_again`](Journal::read_again) finds,
+    /// then whatever comes of this, a crash leaves operations after which just these are retained. The errors are those of a commit.
+    pub fn shorten(&mut self, retained: &Retained) -> Result<(), WriteFault>
+        ensures open { OnOk result (IsOpen self.old) }
+        ensures closed { ¬ IsOpen self.old → StaysClosed self.old self.new }
+        ensures done { OnOk result ((standing seen : List Kept) → Holds self.old standing seen → Rests self.new (sets_of retained.now)) }
+        ensures doubtful { IfErr result (λ e. ¬ IsRefused e → IsOpen self.old × ¬ IsOpen self.new) }
+        ensures refused { IfErr result (λ e. IsRefused e → (standing seen : List Kept) → Holds self.old standing seen → Rests self.new standing) }
+        ensures crash { (standing seen : List Kept) → Holds self.old standing seen → (left : Image) → may_leave self.new left → Keeps left standing ⊎ Keeps left (sets_of retained.now) }
+        ensures same { (standing seen : List Kept) → Holds self.old standing seen → Retains retained.now standing
+            → (left : Image) → may_leave self.new left → (operations : List Kept) × Keeps left operations × Retains retained.now operations }
+    {
+        if let Err(fault) = self.begin_anew() {
+            return Err(fault);
+        }
+        if let Err(error) = self.push_sets(retained) {
+            self.stream.rollback();
+            return Err(WriteFault::Refused(error));
+        }
+        match self.commit() {
+            Ok(()) => Ok(()),
+            Err(fault) => Err(fault),
+        }
+    }
+
+    /// Copies what is committed from the log into the file of pages, and empties the log. No commit does so by itself, so call this while
+    /// nothing waits and [`is_log_long`](Journal::is_log_long). What was pushed since the last commit stays; if some of it is in the log
+    /// already, nothing is copied. A closed journal refuses it.
     pub fn checkpoint(&mut self) -> Result<(), Error>
+        ensures open { OnOk result (IsOpen self.old) }
+        ensures closed { ¬ IsOpen self.old → StaysClosed self.old self.new }
+        ensures copied { OnOk result (¬ HasSpilled self.old → log_len self.new ≡ 0) }
         ensures holds { (standing seen : List Kept) → Holds self.old standing seen → Holds self.new standing seen }
         ensures rests { (standing : List Kept) → Rests self.old standing → Rests self.new standing }
         ensures crash { AddsNoOutcome self.old self.new }

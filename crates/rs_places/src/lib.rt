@@ -3,6 +3,7 @@
 //! from the first connection to the last ([`run_store`]). The contract of the run is one statement, for every server.
 #![tactic(auto)]
 
+mod counting;
 mod seats;
 mod settling;
 mod shared_gate;

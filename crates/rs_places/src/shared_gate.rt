@@ -14,10 +14,12 @@ ghost use Rattle.rs_places.specs.Gates.{IsOtherPending, handed_on};
 ghost use Rattle.rs_session.specs.Gate.{Grows, Sends, SendsAtMost, Submits, TakesPending, Uses, entry_by};
 ghost use Rattle.rs_store.specs.History.{IsLegal};
 
+use crate::counting::{change_of, count_change, count_filter};
 use crate::seats::{Reads, Seats};
 use rs_intake_line::{Intake, LineEnd, LineName, SeatLine};
 use rs_intake_queue::MAX_CHANGES;
 use rs_message::{Found, Operation, SubmitFault};
+use rs_metrics::FilterOutcome;
 use rs_places_turns::{LineGate, StoreGate};
 use rs_session::Gate;
 use rs_topic::TopicFilter;
@@ -142,6 +144,24 @@ impl<N: LineName, R: Wait + Copy> SharedGate<N, R> {
         self.known = version.told();
         Ok(version)
     }
+
+    /// Hands the change to the writer and waits for the receipt, as [`submit`](Gate::submit) says. It is not counted.
+    fn hand_over(&mut self, operation: Operation) -> Result<(), SubmitFault>
+        requires { is_sweep operation ≡ false }
+        ensures list { Grows (Knows N.limit self.old) (Knows N.limit self.new) (Submits operation self.old.mark self.new.mark result) }
+        ensures mark { Uses self.old.mark self.new.mark }
+        ensures serial { (self.new.mark.serial ≡ next_serial self.old.mark.serial)
+            ⊎ ((result ≡ Err Strange) × (self.new.mark ≡ self.old.mark) × IsOtherPending self.old.pending operation) }
+        ensures sent { SendsAtMost self.old.mark.sent (entry_by operation self.new.mark) self.new.mark.sent }
+        ensures last { OnOk result (Sends self.old.mark.sent (entry_by operation self.new.mark ∷ []) self.new.mark.sent) }
+        ensures pending { TakesPending operation self.old.mark self.new.mark result self.old.pending self.new.pending }
+    {
+        // For the proof: this call says that the serial is a u64.
+        let _serial = self.line.serial();
+        let receipt = self.intake.submit(&self.rt, &mut self.line, operation)?;
+        learn(&mut self.known, receipt.told());
+        Ok(())
+    }
 }
 
 impl<N: LineName, R: Wait + Copy> Gate for SharedGate<N, R> {
@@ -186,11 +206,10 @@ impl<N: LineName, R: Wait + Copy> Gate for SharedGate<N, R> {
         ensures last { OnOk result (Sends self.old.mark.sent (entry_by operation self.new.mark ∷ []) self.new.mark.sent) }
         ensures pending { TakesPending operation self.old.mark self.new.mark result self.old.pending self.new.pending }
     {
-        // For the proof: this call says that the serial is a u64.
-        let _serial = self.line.serial();
-        let receipt = self.intake.submit(&self.rt, &mut self.line, operation)?;
-        learn(&mut self.known, receipt.told());
-        Ok(())
+        let change = change_of(&operation);
+        let answer = self.hand_over(operation);
+        count_change(self.line.meter(), change, &answer);
+        answer
     }
 
     /// Answers from the published version.
@@ -206,8 +225,18 @@ impl<N: LineName, R: Wait + Copy> Gate for SharedGate<N, R> {
         now: u64,
         room: usize,
     ) -> Result<Option<Vec<Found>>, AllocError> {
-        let version = self.read()?;
-        version.answer_within(filter, now, room)
+        let version = match self.read() {
+            Ok(version) => version,
+            Err(error) => {
+                self.line
+                    .meter()
+                    .count_filter(FilterOutcome::OutOfMemory, 0);
+                return Err(error);
+            }
+        };
+        let answer = version.answer_within(filter, now, room);
+        count_filter(self.line.meter(), &answer);
+        answer
     }
 }
 

@@ -14,7 +14,7 @@ use rs_intake::{BlankQueue, Cause, Ended, Queue, run_writer};
 use rs_intake_line::{Intake, LineName, SeatLine};
 use rs_places_pool::{Runner, Watch};
 use rs_places_steps::run_places;
-use rs_places_turns::{FreeGate, PlacesEnd, StoreFault, Turn};
+use rs_places_turns::{FreeGate, FreeTurn, PlacesEnd, StoreFault, Turn};
 use rs_version::{Blank, Seat, Told, VersionWriter};
 use std::alloc::{AllocError, Global};
 use std::marker::Brand;
@@ -163,7 +163,7 @@ pub fn run_store<
     alloc: Global,
     blank: Blank,
     queue: BlankQueue,
-    turns: Vec<T>,
+    turns: Vec<FreeTurn<T>>,
     runner: Runner<W>,
 ) -> Result<StoreEnd<T>, StoreFault>
 where
@@ -171,8 +171,8 @@ where
     T::Out: Send + 'static,
     T::Time: Send + 'static,
     requires { queue.places ≡ length turns.items }
-    ensures { IfOk result (λ end. IsStoreRun blank.limit queue.places (map T.connections turns.items)
-        (map T.connections end.turns.items) end.version end.changes end.cause) }
+    ensures { IfOk result (λ end. IsStoreRun blank.limit queue.places (map T.connections turns.items) (map T.connections end.turns.items)
+        end.version end.changes end.cause) }
 {
     run_named::<Brand, T, H, W>(rt, alloc, blank, queue, turns, runner)
 }
@@ -187,7 +187,7 @@ fn run_named<
     alloc: Global,
     blank: Blank,
     queue: BlankQueue,
-    turns: Vec<T>,
+    turns: Vec<FreeTurn<T>>,
     runner: Runner<W>,
 ) -> Result<StoreEnd<T>, StoreFault>
 where
@@ -197,8 +197,8 @@ where
     requires store { (blank.history ≡ N.history) × (blank.limit ≡ N.limit) }
     requires queue { (queue.name ≡ N.queue) × (queue.places ≡ N.places) }
     requires turns { queue.places ≡ length turns.items }
-    ensures { IfOk result (λ end. IsStoreRun blank.limit queue.places (map T.connections turns.items)
-        (map T.connections end.turns.items) end.version end.changes end.cause) }
+    ensures { IfOk result (λ end. IsStoreRun blank.limit queue.places (map T.connections turns.items) (map T.connections end.turns.items)
+        end.version end.changes end.cause) }
 {
     let (writer, seats) = blank.open::<N, H>(rt)?;
     let (intake, lines, queue) = queue.open::<N>()?;

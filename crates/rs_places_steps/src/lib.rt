@@ -4,11 +4,10 @@
 //! replies to what was read, and then its line was closed.
 //!
 //! The types of a client's stages (`stages`) keep what was served so far, and what it began with, wherever it is (`begun`); the steps
-//! (`client`) lead from one to the next. Its end comes in a cell by which it is known whose end it is (`end_cell`).
+//! (`stages::steps`) lead from one to the next. Its end comes in a cell by which it is known whose end it is (`end_cell`).
 #![tactic(auto)]
 
 mod begun;
-mod client;
 mod end_cell;
 mod run;
 mod stages;

@@ -10,7 +10,9 @@ use crate::end_cell::{ClientEnd, client_ends};
 use crate::stages::FreeClient;
 use crate::task::Task;
 use rs_places_pool::{Runner, Watch};
-use rs_places_turns::{FreeGate, LineGate, PlaceEnd, PlacesEnd, StoreFault, StoreGate, Turn};
+use rs_places_turns::{
+    FreeGate, FreeTurn, LineGate, PlaceEnd, PlacesEnd, StoreFault, StoreGate, Turn,
+};
 use std::alloc::{AllocError, Global};
 use std::sync::Wait;
 use std::thread::{Threads, yield_now};
@@ -21,11 +23,12 @@ type EndAt<T, G> = PlaceEnd<<G as StoreGate>::Name, <G as LineGate>::End, T>;
 /// The client on its way, and what takes its end.
 fn make_task<T: Turn + Drop, G: LineGate + Drop>(
     alloc: Global,
-    turn: T,
+    turn: FreeTurn<T>,
     gate: FreeGate<G>,
 ) -> Result<(Task<T, G>, ClientEnd<T, G>), AllocError>
     ensures { IfOk result (λ made. place_of T.connections G.shared made.1.begun ≡ place_at (T.connections turn) gate) }
 {
+    let turn = turn.into_turn();
     let gate = gate.into_gate();
     let (end, taken) = client_ends(alloc, &turn, &gate)?;
     Ok((Task::new(FreeClient::new(turn, gate), end), taken))
@@ -34,7 +37,7 @@ fn make_task<T: Turn + Drop, G: LineGate + Drop>(
 /// Each client on its way, and what takes the end of each.
 fn make_tasks<T: Turn + Drop, G: LineGate + Drop>(
     alloc: Global,
-    turns: Vec<T>,
+    turns: Vec<FreeTurn<T>>,
     gates: Vec<FreeGate<G>>,
 ) -> Result<(Vec<Task<T, G>>, Vec<ClientEnd<T, G>>), AllocError>
     ensures { IfOk result (λ made. map (λ end. place_of T.connections G.shared end.begun) made.1.items
@@ -141,7 +144,7 @@ pub fn run_places<
 >(
     rt: H,
     alloc: Global,
-    turns: Vec<T>,
+    turns: Vec<FreeTurn<T>>,
     gates: Vec<FreeGate<G>>,
     runner: Runner<W>,
 ) -> Result<PlacesEnd<G::Name, G::End, T>, StoreFault>

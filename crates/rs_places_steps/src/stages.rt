@@ -1,4 +1,8 @@
 //! Where a client is between two of the steps by which it is served. Contracts see of each what the client began with.
+//!
+//! The fields are private, so nobody but [`steps`] can take a client apart: whoever has one, and serves it on for ever, makes its steps.
+
+mod steps;
 
 use crate::begun::Begun;
 use rs_places_turns::{Connection, LineGate, Turn};
@@ -9,10 +13,10 @@ use std::marker::Model;
 /// It has no connection. Its next one has this number.
 #[derive(Drop)]
 pub(crate) struct FreeClient<T: Turn, G: LineGate> {
-    pub(crate) turn: T,
-    pub(crate) gate: G,
-    pub(crate) number: u64,
-    pub(crate) begun: Begun<T, G>,
+    turn: T,
+    gate: G,
+    number: u64,
+    begun: Begun<T, G>,
 }
 
 impl<T: Turn, G: LineGate> Model for FreeClient<T, G> {
@@ -31,19 +35,19 @@ impl<T: Turn, G: LineGate> Model for FreeClient<T, G> {
 /// A client with its connection of this number.
 #[derive(Drop)]
 pub(crate) struct Connected<T: Turn, G> {
-    pub(crate) turn: T,
-    pub(crate) serving: Serving<CountedGate<G>>,
-    pub(crate) input: Counted<T::In>,
-    pub(crate) output: Counted<T::Out>,
-    pub(crate) clock: T::Time,
-    pub(crate) number: u64,
-    pub(crate) begun: Begun<T, G>,
+    turn: T,
+    serving: Serving<CountedGate<G>>,
+    input: Counted<T::In>,
+    output: Counted<T::Out>,
+    clock: T::Time,
+    number: u64,
+    begun: Begun<T, G>,
 }
 
 /// It is served a connection. All that was whole is handled, so there is something to do once there is something to read.
 #[derive(Drop)]
 pub(crate) struct ServedClient<T: Turn, G: LineGate> {
-    pub(crate) on: Connected<T, G>,
+    on: Connected<T, G>,
 }
 
 impl<T: Turn, G: LineGate> Model for ServedClient<T, G> {
@@ -72,7 +76,7 @@ impl<T: Turn, G: LineGate> Model for ServedClient<T, G> {
 /// It is served a connection. Something was read, and is not handled yet.
 #[derive(Drop)]
 pub(crate) struct ReadClient<T: Turn, G: LineGate> {
-    pub(crate) on: Connected<T, G>,
+    on: Connected<T, G>,
 }
 
 impl<T: Turn, G: LineGate> Model for ReadClient<T, G> {
@@ -101,13 +105,13 @@ impl<T: Turn, G: LineGate> Model for ReadClient<T, G> {
 /// Its connection of this number was served, and ended so. It is not given back to the turn yet.
 #[derive(Drop)]
 pub(crate) struct EndedClient<T: Turn, G: LineGate> {
-    pub(crate) turn: T,
-    pub(crate) gate: CountedGate<G>,
-    pub(crate) connection: Connection<Counted<T::In>, Counted<T::Out>, T::Time>,
-    pub(crate) number: u64,
-    pub(crate) begun: Begun<T, G>,
-    pub(crate) result: Result<Served, ServeFault>,
-    pub(crate) packets: u64,
+    turn: T,
+    gate: CountedGate<G>,
+    connection: Connection<Counted<T::In>, Counted<T::Out>, T::Time>,
+    number: u64,
+    begun: Begun<T, G>,
+    result: Result<Served, ServeFault>,
+    packets: u64,
 }
 
 impl<T: Turn, G: LineGate> Model for EndedClient<T, G> {
@@ -132,10 +136,10 @@ impl<T: Turn, G: LineGate> Model for EndedClient<T, G> {
 /// Its turn has no more connections, and its gate is closed.
 #[derive(Drop)]
 pub(crate) struct DoneClient<T: Turn, G: LineGate> {
-    pub(crate) turn: T,
-    pub(crate) told: Told<G::Name>,
-    pub(crate) line: G::End,
-    pub(crate) begun: Begun<T, G>,
+    turn: T,
+    told: Told<G::Name>,
+    line: G::End,
+    begun: Begun<T, G>,
 }
 
 impl<T: Turn, G: LineGate> Model for DoneClient<T, G> {

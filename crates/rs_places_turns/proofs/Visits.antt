@@ -2,7 +2,7 @@
 use Rattle.std.proofs.Common.{◌≡◌, ℕ, Option, Some, None, List, [], ◌∷◌, ◌++◌, map, refl, sym, ap, subst, ◌∙◌, append_assoc}
 use Rattle.std.proofs.lemmas.List.{append-nil, map-append}
 use Rattle.rs_places_turns.specs.Shared.{SharedValue}
-use Rattle.rs_places_turns.specs.Turns.{AreAll, Connections, Ending, Gave, GivesNext, Streams, TakesBack, TookBack}
+use Rattle.rs_places_turns.specs.Turns.{AreAll, Connections, Ending, Gave, GivesNext, IsOut, Streams, TakesBack, TookBack}
 use Rattle.rs_places_turns.specs.Visits.{AreConnectionsServed, IsConnectionServed, Place, ServedSoFar, Visit, next_number}
 use Rattle.rs_places_turns.proofs.Marks.{marks_through}
 
@@ -39,12 +39,13 @@ took_more first None (Some us) xs ys p q = absurd q
 took_more None (Some vs) (Some us) xs ys p q = absurd p
 took_more (Some ws) (Some vs) (Some us) xs ys p q = q ∙ (ap (λ l. l ++ ys) p ∙ append_assoc ws xs ys)
 
-pub served_none : (limit : ℕ) (place : Place) → place.gate.pending ≡ [] → ServedSoFar limit place 1 place
-served_none limit place none = record {
+pub served_none : (limit : ℕ) (place : Place) → IsOut None place.connections.out → place.gate.pending ≡ [] → ServedSoFar limit place 1 place
+served_none limit place out none = record {
   visits = [];
   extends = λ more last h. h;
   given = gave_none place.connections.waiting;
   ended = took_none place.connections.ended;
+  out = out;
   place = refl;
   pending = none;
 }
@@ -70,6 +71,7 @@ served_more limit number first now after connections given so_far next one =
           (gave_more first.connections.waiting now.connections.waiting after.connections.waiting (map (λ (v : Visit). v.given) so_far.visits) (visit.given ∷ []) so_far.given gave);
       ended = subst Q (sym (map-append (λ (v : Visit). v.ending) so_far.visits (visit ∷ [])))
           (took_more first.connections.ended now.connections.ended after.connections.ended (map (λ (v : Visit). v.ending) so_far.visits) (visit.ending ∷ []) so_far.ended took);
+      out = one.taken_back.out;
       place =
           let moved = (marks_through _ _ _ one.served.connection.marks one.served.connection.run).place in
           ap (λ (g : SharedValue). g.mark.place) (sym one.leaves) ∙ (one.served.connection.handed_on.place ∙ (moved ∙ so_far.place));

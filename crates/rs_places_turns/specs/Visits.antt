@@ -1,12 +1,12 @@
 -- Connections that were served one after the other, each from what the one before left.
-use Rattle.std.specs.Prelude.{◌≡◌, ℕ, ◌+◌, ◌-◌, ◌^◌, min, List, [], ◌∷◌, ◌++◌, map}
+use Rattle.std.specs.Prelude.{◌≡◌, ℕ, ◌+◌, ◌-◌, ◌^◌, min, None, List, [], ◌∷◌, ◌++◌, map}
 use Rattle.rs_session.specs.Points.{Given}
 use Rattle.rs_session.specs.Run.{Exchange}
 use Rattle.rs_server.specs.Clock.{TellsInOrder}
 use Rattle.rs_server.specs.Conversation.{Causes, Transfer, assigned_of, start}
 use Rattle.rs_places_turns.specs.Serving.{IsServedAt}
 use Rattle.rs_places_turns.specs.Shared.{SharedValue}
-use Rattle.rs_places_turns.specs.Turns.{Connections, Ending, Gave, Streams, TookBack}
+use Rattle.rs_places_turns.specs.Turns.{Connections, Ending, Gave, IsOut, Streams, TookBack}
 
 -- the number of the connection after the one of this number. The greatest u64 is repeated
 abbrev pub next_number : ℕ → ℕ
@@ -55,11 +55,12 @@ abbrev pub place_at : Connections → SharedValue → Place
 place_at connections gate = record { connections = connections; gate = gate }
 
 -- From the first place to the one now these connections were served, numbered from 1 on. Whatever is served from now on, from this
--- number on, was served after them. The turn gave them and took them back, the place stays, and nothing is expected.
+-- number on, was served after them. The turn gave them and took them back, none is out, the place stays, and nothing is expected.
 pub record ServedSoFar (limit : ℕ) (first : Place) (number : ℕ) (now : Place) : Type 0 where
   pub visits : List Visit
   pub extends : (more : List Visit) (last : SharedValue) → AreConnectionsServed limit number now.gate more last → AreConnectionsServed limit 1 first.gate (visits ++ more) last
   pub given : Gave first.connections.waiting (map (λ visit. visit.given) visits) now.connections.waiting
   pub ended : TookBack first.connections.ended (map (λ visit. visit.ending) visits) now.connections.ended
+  pub out : IsOut None now.connections.out
   pub place : now.gate.mark.place ≡ first.gate.mark.place
   pub pending : now.gate.pending ≡ []

@@ -12,4 +12,4 @@ mod turn;
 pub use ended::EndedConnection;
 pub use fault::StoreFault;
 pub use gates::{FreeGate, LineGate, StoreGate};
-pub use turn::{Connection, PlaceEnd, PlacesEnd, Turn};
+pub use turn::{Connection, FreeTurn, PlaceEnd, PlacesEnd, Turn};

@@ -3,12 +3,14 @@
 ghost use Rattle.std.specs.Option.{option_map};
 ghost use Rattle.rs_server.specs.Counts.{failures_of, inner_of};
 ghost use Rattle.rs_places_turns.specs.Ended.{HasEnded, ending_of};
-ghost use Rattle.rs_places_turns.specs.Turns.{GivesNext, TakesBack};
+ghost use Rattle.std.specs.Prelude.{◌≡◌, None};
+ghost use Rattle.rs_places_turns.specs.Turns.{GivesNext, IsOut, TakesBack};
 
 use crate::ended::EndedConnection;
 use rs_server::Clock;
 use rs_version::{StoreName, Told};
 use std::io::{Read, Write};
+use std::marker::Model;
 
 /// A connection: what its client sends, what it is sent, and its clock.
 #[derive(Drop)]
@@ -41,7 +43,10 @@ pub trait Turn {
     ghost connections: { Self → Connections } = { λ _. none_given };
 
     /// The next connection of the place. `None` if there are no more; then it is not asked again.
+    ///
+    /// No connection is out: whoever served the one before has given it back ([`end`](Turn::end)), with what is owed for that.
     fn next(&mut self) -> Option<Connection<Self::In, Self::Out, Self::Time>>
+        requires { IsOut None (connections self.old).out }
         ensures { GivesNext (connections self.old)
             (option_map (λ c. record {
               unread = Self.In.remaining c.input;
@@ -67,6 +72,41 @@ pub trait Turn {
             (ending_of (Self.In.remaining (inner_of ended.connection.input)) (Self.Out.contents (inner_of ended.connection.output))
             (Self.Time.moments ended.connection.clock) (failures_of ended.connection.input) (failures_of ended.connection.output) ended.served)
             (connections self.new) };
+}
+
+/// A turn of which no connection is out: a new one, or one that took its last connection back.
+#[derive(Drop)]
+pub struct FreeTurn<T: Turn> {
+    turn: T,
+}
+
+impl<T: Turn> Model for FreeTurn<T> {
+    ghost use Rattle.std.specs.Prelude.{None};
+    ghost use Rattle.rs_places_turns.specs.Turns.{IsOut};
+
+    ghost Value = { T };
+
+    ghost view = { λ free. free.turn };
+
+    ghost invariant = { λ free. IsOut None (T.connections free.turn).out };
+}
+
+impl<T: Turn> FreeTurn<T> {
+    /// This turn, of which no connection is out.
+    pub fn new(turn: T) -> FreeTurn<T>
+        requires { IsOut None (T.connections turn).out }
+        ensures { result ≡ turn }
+    {
+        FreeTurn { turn }
+    }
+
+    /// The turn.
+    pub fn into_turn(self) -> T
+        ensures turn { result ≡ self }
+        ensures free { IsOut None (T.connections result).out }
+    {
+        self.turn
+    }
 }
 
 /// What is left of a place whose connections were served.

@@ -1,5 +1,6 @@
 -- The command line, as the crate clap reads it.
-use Rattle.std.specs.Prelude.{◌≡◌, ◌≤◌, ◌-◌, ◌^◌, ℕ, true, false, Bool, List, [], ◌∷◌, Option, Some, None, IfSome, is_some, not, unwrap_or, codes}
+use Rattle.std.specs.Prelude.{◌≡◌, ◌≤◌, ◌<◌, ◌-◌, ◌*◌, ◌^◌, ◌⊎◌, ◌++◌, ℕ, true, false, Bool, List, [], ◌∷◌, Option, Some, None, IfSome, is_some, not, unwrap_or, codes}
+use Rattle.std.specs.Option.{option_map}
 use Rattle.std.specs.String.{string_bytes}
 use Rattle.std.specs.Str.Parse.{IsNumeral, digits_value, without_leading_plus}
 use Rattle.clap.specs.Words.{App, Rule, Row, Text, new_app, new_rule, with_rule, with_subcommand, first_of, one_of, subcommand_of}
@@ -40,6 +41,10 @@ clients_option = number_option (codes "clients") 1 MAX_CLIENTS
 abbrev pub topics_option : Rule
 topics_option = record (number_option (codes "topics") 1 MAX_TOPICS) { defaults = codes "10000" ∷ [] }
 
+-- `--memory SIZE`
+abbrev pub memory_option : Rule
+memory_option = record (new_rule (codes "memory")) { long = Some (codes "memory"); value_names = 1 }
+
 -- `--connections NUMBER`
 abbrev pub connections_option : Rule
 connections_option = number_option (codes "connections") 1 MAX_CONNECTIONS
@@ -56,12 +61,17 @@ idle_option = number_option (codes "idle") 1 MAX_IDLE
 abbrev pub log_option : Rule
 log_option = record (new_rule (codes "log")) { long = Some (codes "log"); action = Some SetTrue }
 
+-- `--metrics ADDRESS`
+abbrev pub metrics_option : Rule
+metrics_option = record (new_rule (codes "metrics")) { long = Some (codes "metrics"); value_names = 1 }
+
 abbrev pub pipe_words : App
 pipe_words = with_rule (with_rule (new_app (codes "pipe")) hex_option) at_option
 
 abbrev pub listen_words : App
-listen_words = with_rule (with_rule (with_rule (with_rule (with_rule (with_rule (with_rule (with_rule (new_app (codes "listen"))
-    address_option) places_option) clients_option) topics_option) connections_option) endless_option) idle_option) log_option
+listen_words = with_rule (with_rule (with_rule (with_rule (with_rule (with_rule (with_rule (with_rule (with_rule (with_rule (new_app (codes "listen"))
+    address_option) places_option) clients_option) topics_option) memory_option) connections_option) endless_option) idle_option) log_option)
+    metrics_option
 
 -- the words after the program's name: one of its commands, with its options
 abbrev pub rstored_words : App
@@ -86,6 +96,32 @@ abbrev pub IsNumberGiven : List Row → Text → ℕ → ℕ → Option ℕ → 
 IsNumberGiven rows option least most (Some number) = IsNumberOf rows option least most number
 IsNumberGiven rows option least most None = first_of option rows ≡ None
 
+-- What may stand behind the digits of a size, and how many bytes it counts.
+abbrev pub IsUnit : Text → ℕ → Type 0
+IsUnit letters each = ((letters ≡ []) × (each ≡ 1)) ⊎ ((letters ≡ codes "K") × (each ≡ 1_024))
+    ⊎ ((letters ≡ codes "M") × (each ≡ 1_024 ^ 2)) ⊎ ((letters ≡ codes "G") × (each ≡ 1_024 ^ 3))
+
+-- The text is a number in decimal, with a letter behind it or without, and means this many bytes: at least 1, and at most what a u64 holds.
+pub record IsSize (text : Text) (bytes : ℕ) : Type 0 where
+  pub digits : Text
+  pub letters : Text
+  pub each : ℕ
+  pub parts : text ≡ digits ++ letters
+  pub decimal : IsNumeral 10 digits
+  pub unit : IsUnit letters each
+  pub value : digits_value 10 digits * each ≡ bytes
+  pub above : 1 ≤ bytes
+  pub below : bytes < 2 ^ 64
+
+-- The option's value is a size of this many bytes.
+abbrev pub IsSizeOf : List Row → Text → ℕ → Type 0
+IsSizeOf rows option bytes = (text : Text) × (first_of option rows ≡ Some text) × IsSize text bytes
+
+-- The option's value is a size of this many bytes, or it has no value and there is no number.
+abbrev pub IsSizeGiven : List Row → Text → Option ℕ → Type 0
+IsSizeGiven rows option (Some bytes) = IsSizeOf rows option bytes
+IsSizeGiven rows option None = first_of option rows ≡ None
+
 -- The flag is set if the option's value says so, and not set if it says otherwise or there is none.
 pub record IsFlagOf (rows : List Row) (option : Text) (flag : Bool) : Type 0 where
   pub set : one_of option rows ≡ Some (codes "true") → flag ≡ true
@@ -105,18 +141,20 @@ IsEndOf rows connections = IsNumberGiven rows (codes "connections") 1 MAX_CONNEC
 -- what the values of a command's options ask for
 abbrev pub IsRunOf : Text → List Row → Run → Type 0
 IsRunOf name rows (Pipe hex at) = (name ≡ codes "pipe") × IsNumberOf rows (codes "at") 0 (2 ^ 64 - 1) at × IsFlagOf rows (codes "hex") hex
-IsRunOf name rows (Listen address places clients topics connections idle log) = (name ≡ codes "listen")
+IsRunOf name rows (Listen address places clients topics memory connections idle log metrics) = (name ≡ codes "listen")
     × (first_of (codes "address") rows ≡ Some (string_bytes address))
     × IsNumberOf rows (codes "places") 1 MAX_PLACES places × AreClientsOf rows places clients
     × IsNumberOf rows (codes "topics") 1 MAX_TOPICS topics
+    × IsSizeGiven rows (codes "memory") memory
     × IsEndOf rows connections
     × IsNumberGiven rows (codes "idle") 1 MAX_IDLE idle × IsFlagOf rows (codes "log") log
+    × (first_of (codes "metrics") rows ≡ option_map string_bytes metrics)
 
 -- each number is in its range
 abbrev pub IsInRange : Run → Type 0
 IsInRange (Pipe hex at) = at ≤ 2 ^ 64 - 1
-IsInRange (Listen address places clients topics connections idle log) = (1 ≤ places) × (places ≤ MAX_PLACES) × (places ≤ clients)
-    × (clients ≤ MAX_CLIENTS) × (1 ≤ topics) × (topics ≤ MAX_TOPICS)
+IsInRange (Listen address places clients topics memory connections idle log metrics) = (1 ≤ places) × (places ≤ MAX_PLACES) × (places ≤ clients)
+    × (clients ≤ MAX_CLIENTS) × (1 ≤ topics) × (topics ≤ MAX_TOPICS) × IfSome memory (λ bytes. (1 ≤ bytes) × (bytes < 2 ^ 64))
     × IfSome connections (λ count. (1 ≤ count) × (count ≤ MAX_CONNECTIONS)) × IfSome idle (λ seconds. (1 ≤ seconds) × (seconds ≤ MAX_IDLE))
 
 -- the words name a command, and its options ask for this

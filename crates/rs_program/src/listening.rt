@@ -2,18 +2,15 @@
 
 use log::sink::Console;
 use log::{LevelFilter, Logged};
-use rs_message::PlaceCount;
-use rs_store::TopicLimit;
-use rs_tcp_server::{ListenFault, Server, Summary};
+use rs_tcp_server::{ListenFault, Server, Settings, Summary};
 use std::net::{Net, TcpListener, TcpStream};
 use std::rt::Files;
 use std::sync::Wait;
 use std::thread::Threads;
-use std::time::{Clock, Duration};
+use std::time::Clock;
 
-/// Serves clients by TCP until so many have connected, or without an end. The address is printed before the first is accepted. A
-/// connection that is idle for as many seconds as `idle` says, if it is given, ends. With `log`, lines about each connection are written
-/// to standard error.
+/// Serves clients by TCP until so many have connected. The address is printed before the first is accepted, and then that of `metrics`, if
+/// it is given: there is told what is counted. With `log`, lines about each connection and the store are written to standard error.
 ///
 /// # Errors
 ///
@@ -21,11 +18,8 @@ use std::time::{Clock, Duration};
 pub(crate) fn listen<H>(
     rt: &H,
     address: &str,
-    places: PlaceCount,
-    clients: u16,
-    topics: TopicLimit,
-    connections: Option<u64>,
-    idle: Option<u64>,
+    metrics: Option<String>,
+    settings: Settings,
     log: bool,
 ) -> Result<Summary, ListenFault>
 where
@@ -42,23 +36,20 @@ where
         + Sync
         + 'static,
 {
-    // No server comes to the end of so many.
-    let connections = connections.unwrap_or(u64::MAX);
-    let idle = idle.map(Duration::from_secs);
+    let connections = settings.connections;
     // By the plain handle, since the one that logs looks up no name.
-    let server = Server::bind(
-        rt,
-        rt.alloc(),
-        address,
-        connections,
-        topics,
-        places,
-        clients,
-        idle,
-    )?;
+    let server = Server::bind(rt, rt.alloc(), address, settings)?;
+    let server = match metrics {
+        Some(metrics) => server.with_metrics(rt, metrics.as_str())?,
+        None => server,
+    };
     let bound = server.address()?;
+    let told = server.metrics_address()?;
     // If nobody reads the output, clients are served all the same.
     let _ = println!(rt; "rstored: listening on {bound}");
+    if let Some(told) = told {
+        let _ = println!(rt; "rstored: metrics on {told}");
+    }
     let summary = server.run(logged(rt, log))?;
     let _ = println!(rt; "rstored: served {connections}");
     Ok(summary)

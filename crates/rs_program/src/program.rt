@@ -9,7 +9,7 @@ use crate::listening::listen;
 use crate::words::{Run, WordsFault, read_words, refused};
 use rs_program_pipe::{OwnGate, PipeFault, pipe};
 use rs_server::Served;
-use rs_tcp_server::{ListenFault, Summary};
+use rs_tcp_server::{ListenFault, Settings, Summary};
 use std::alloc::Global;
 use std::env;
 use std::env::Env;
@@ -18,7 +18,7 @@ use std::net::{Net, TcpListener, TcpStream};
 use std::rt::Files;
 use std::sync::Wait;
 use std::thread::Threads;
-use std::time::Clock;
+use std::time::{Clock, Duration};
 use thiserror::Error;
 
 /// Why the program did not serve what it was asked to.
@@ -133,23 +133,27 @@ where
                 places,
                 clients,
                 topics,
+                memory,
                 connections,
                 idle,
                 log,
+                metrics,
             },
-        ) => match listen(
-            rt,
-            address.as_str(),
-            places,
-            clients,
-            topics,
-            connections,
-            idle,
-            log,
-        ) {
-            Ok(summary) => server_outcome(summary, places.get(), clients),
-            Err(fault) => Err(RunFault::Listen(log.then_some(fault))),
-        },
+        ) => {
+            let settings = Settings {
+                // No server comes to the end of so many.
+                connections: connections.unwrap_or(u64::MAX),
+                topics,
+                memory,
+                places,
+                clients,
+                idle: idle.map(Duration::from_secs),
+            };
+            match listen(rt, address.as_str(), metrics, settings, log) {
+                Ok(summary) => server_outcome(summary, places.get(), clients),
+                Err(fault) => Err(RunFault::Listen(log.then_some(fault))),
+            }
+        }
         Err(fault) => Err(RunFault::Words(fault)),
     }
 }

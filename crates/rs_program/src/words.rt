@@ -7,6 +7,7 @@ ghost use Rattle.rs_program.specs.CommandLine.{AskFor, IsInRange, IsRunOf};
 ghost use Rattle.rs_program.specs.Statuses.{words_status};
 
 mod commands;
+mod size;
 mod values;
 
 use crate::words::commands::command;
@@ -39,12 +40,16 @@ pub enum Run {
         clients: u16,
         /// How many topics may hold a message.
         topics: TopicLimit,
+        /// How many bytes the retained messages may count: at least 1. Any number, if it is not given.
+        memory: Option<u64>,
         /// After how many connections the program ends: 1 to [`MAX_CONNECTIONS`]. `None` for no end.
         connections: Option<u64>,
         /// After how many seconds an idle connection ends: 1 to [`MAX_IDLE`]. Never, if it is not given.
         idle: Option<u64>,
         /// Whether lines about each connection are written to standard error.
         log: bool,
+        /// The address by which metrics are told, as it was given. To nobody, if it is not given.
+        metrics: Option<String>,
     },
 }
 

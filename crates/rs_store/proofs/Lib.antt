@@ -1,4 +1,5 @@
 pub mod Adding
+pub mod Bytes
 pub mod Entries
 pub mod Expiring
 pub mod Histories

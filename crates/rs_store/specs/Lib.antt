@@ -1,4 +1,5 @@
 pub mod Adding
+pub mod Bytes
 pub mod Codes
 pub mod Contents
 pub mod Expiring

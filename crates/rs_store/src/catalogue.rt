@@ -4,6 +4,7 @@ ghost use Rattle.std.specs.Prelude.{◌≡◌, ◌⊎◌, ◌-◌, ◌^◌, ◌<
 ghost use Rattle.std.specs.Option.{option_map};
 ghost use Rattle.rs_message.specs.declared.entry.Entry.{Entry};
 ghost use Rattle.rs_store.specs.declared.content.Content.{Content};
+ghost use Rattle.rs_store.specs.Bytes.{bytes_at, retained_bytes};
 ghost use Rattle.rs_store.specs.Contents.{Accepts, IsAdded, IsNotNext, NeedsSweep, NotAddedBy, RefusedBy, answer_in, answer_within, empty, expired_in, followed, next_sweep, serial_count, swept};
 ghost use Rattle.rs_store.specs.Expiring.{NoneExpiredBefore};
 ghost use Rattle.rs_message.specs.Messages.{is_sweep};
@@ -16,7 +17,7 @@ use crate::fault::Refusal;
 use crate::limit::TopicLimit;
 use crate::messages::Messages;
 use rs_message::{Entry, Found, Operation, Origin};
-use rs_topic::TopicFilter;
+use rs_topic::{TopicFilter, TopicName};
 use std::alloc::{AllocError, Global};
 
 /// The retained messages after a list of entries. Contracts see a catalogue as its [`Content`](crate::Content): two catalogues of
@@ -75,6 +76,14 @@ pub trait Catalogue {
     fn count(&self) -> u32
         ensures value { result ≡ length (content self.now).retained }
         ensures few { result ≤ (content self.now).limit };
+
+    /// How many bytes the retained messages count, each as [`bytes_of`](crate::bytes_of) says.
+    fn bytes(&self) -> u64
+        ensures { result ≡ retained_bytes (content self.now).retained };
+
+    /// How many of them are those of this topic: 0 if it holds no message.
+    fn bytes_at(&self, topic: &TopicName) -> u64
+        ensures { result ≡ bytes_at topic.now (content self.now).retained };
 
     /// The number of topics whose message is expired at a moment, in seconds.
     fn expired_count(&self, now: u64) -> u32

@@ -20,6 +20,7 @@ mod ledger;
 mod limit;
 mod map;
 mod messages;
+mod size;
 
 pub use answer::{Answer, Stop};
 pub use calm::Calm;
@@ -30,6 +31,7 @@ pub use expiry::{earliest_end, is_expired};
 pub use fault::Refusal;
 pub use law::{content_law, sweep_law};
 pub use ledger::Ledger;
-pub use limit::{MAX_TOPICS, TopicLimit};
+pub use limit::{MAX_TOPICS, TOPIC_BYTES, TopicLimit};
 pub use map::{MapCatalogue, MapMessages};
 pub use messages::Messages;
+pub use size::bytes_of;

@@ -1,11 +1,14 @@
 //! A catalogue in an ordered map.
 
-ghost use Rattle.std.specs.Prelude.{◌≡◌, ◌-◌, ◌^◌, ◌≤◌, ◌++◌, nat_le, length, map, IfErr, IfOk, OnOk, OnErr};
-ghost use Rattle.std.specs.Option.{option_map};
-ghost use Rattle.std.specs.BTreeMap.{insert_entry};
+ghost use Rattle.std.specs.Prelude.{◌≡◌, ◌-◌, ◌^◌, ◌<◌, ◌≤◌, ◌++◌, nat_le, length, map, IfErr, IfOk, OnOk, OnErr};
+ghost use Rattle.std.specs.Option.{option_copied, option_map};
+ghost use Rattle.std.specs.BTreeMap.{insert_entry, is_at};
 ghost use Rattle.std.specs.List.{filter as filter_list};
+ghost use Rattle.std.specs.List.Sorted.{IsStrictlySortedBy};
+ghost use Rattle.std.specs.Map.{keys_of, lookup, remove_entry};
 ghost use Rattle.rs_topic.specs.Matching.{matches};
 ghost use Rattle.rs_topic.specs.Order.{topic_cmp};
+ghost use Rattle.rs_store.specs.Bytes.{bytes_if_any, retained_bytes};
 ghost use Rattle.rs_store.specs.Contents.{after, found_of, if_fits, is_answered, is_gone, stays};
 ghost use Rattle.rs_store.specs.Expiring.{first_end};
 ghost use Rattle.rs_store.specs.Room.{IsStop};
@@ -18,6 +21,7 @@ use crate::fault::Refusal;
 use crate::ledger::Ledger;
 use crate::limit::TopicLimit;
 use crate::messages::Messages;
+use crate::size::bytes_of;
 use rs_message::{Entry, Found, Message, Operation};
 use rs_topic::{TopicFilter, TopicName};
 use std::alloc::{AllocError, Global};
@@ -34,12 +38,36 @@ pub struct MapMessages {
 ///
 /// With n topics, `accepts` and `apply` look up one topic in about log n comparisons, each along the levels of two topics (at
 /// most [`MAX_LEVELS`](rs_topic::MAX_LEVELS)). `answer` matches every topic. `copy` and `messages` take about n log n comparisons.
-/// `version`, `last_serial` and `count` take constant time.
+/// `version`, `last_serial`, `count` and `bytes` take constant time.
 #[derive(Drop)]
 pub struct MapCatalogue {
     messages: MapMessages,
+    bytes: u64,
     ledger: Ledger,
     ghost fits: { length messages.retained.entries ≤ ledger.limit },
+    ghost weighed: { retained_bytes messages.retained.entries ≡ bytes },
+}
+
+/// How many bytes the messages count.
+fn bytes_of_all(retained: &BTreeMap<TopicName, Message>) -> u64
+    requires { retained_bytes retained.now.entries < 2 ^ 64 }
+    ensures { result ≡ retained_bytes retained.now.entries }
+{
+    let mut bytes = 0;
+    for (topic, message) in retained {
+        bytes += bytes_of(topic, message);
+    }
+    bytes
+}
+
+/// How many bytes the message of a topic counts, 0 if there is none.
+fn bytes_if_any(topic: &TopicName, message: Option<&Message>) -> u64
+    ensures { result ≡ bytes_if_any topic.now (option_copied message.entry) }
+{
+    match message {
+        Some(message) => bytes_of(topic, message),
+        None => 0,
+    }
 }
 
 /// Removes the messages that are expired.
@@ -49,38 +77,71 @@ fn sweep(retained: &mut BTreeMap<TopicName, Message>, moment: u64)
     retained.retain(|_, message| !is_expired(message, moment));
 }
 
-/// Sets the message of a topic. If memory is refused, nothing changes.
+/// Sets the message of a topic, and returns the one that it replaces. If memory is refused, nothing changes.
 fn set(
     retained: &mut BTreeMap<TopicName, Message>,
     topic: TopicName,
     message: Message,
-) -> Result<(), AllocError>
+) -> Result<Option<Message>, AllocError>
     ensures done { OnOk result (retained.new.entries ≡ insert_entry topic_cmp retained.old.entries topic message) }
+    ensures replaced { IfOk result (λ old. old ≡ lookup (is_at (topic_cmp topic)) retained.old.entries) }
     ensures refused { OnErr result (retained.new.entries ≡ retained.old.entries) }
+    ensures sorted { IsStrictlySortedBy topic_cmp (keys_of retained.old.entries) }
 {
     match retained.insert(topic, message) {
-        Ok(_) => Ok(()),
+        Ok(old) => Ok(old),
         Err(_) => Err(AllocError),
     }
 }
 
-/// Sets or clears one topic, or removes what is expired. If memory is refused, nothing changes.
+/// Sets one topic, and returns how many bytes the messages count then. If memory is refused, nothing changes.
+fn set_one(
+    retained: &mut BTreeMap<TopicName, Message>,
+    bytes: u64,
+    found: &Found,
+) -> Result<u64, AllocError>
+    requires { retained_bytes retained.old.entries ≡ bytes }
+    ensures done { OnOk result (retained.new.entries ≡ insert_entry topic_cmp retained.old.entries found.now.topic found.now.message) }
+    ensures weighed { IfOk result (λ n. n ≡ retained_bytes retained.new.entries) }
+    ensures refused { OnErr result (retained.new.entries ≡ retained.old.entries) }
+{
+    let (topic, message) = (found.topic(), found.message());
+    // Never: all messages together count less than 2 to the power of 46 bytes.
+    let Some(both) = bytes.checked_add(bytes_of(topic, message)) else {
+        return Err(AllocError);
+    };
+    let old = set(retained, topic.copy()?, message.copy()?)?;
+    Ok(both - bytes_if_any(topic, old.as_ref()))
+}
+
+/// Clears one topic, and returns how many bytes the messages count then.
+fn clear_one(retained: &mut BTreeMap<TopicName, Message>, bytes: u64, topic: &TopicName) -> u64
+    requires { retained_bytes retained.old.entries ≡ bytes }
+    ensures done { retained.new.entries ≡ remove_entry (is_at (topic_cmp topic.now)) retained.old.entries }
+    ensures weighed { result ≡ retained_bytes retained.new.entries }
+{
+    let old = retained.remove(topic);
+    bytes - bytes_if_any(topic, old.as_ref())
+}
+
+/// Sets or clears one topic, or removes what is expired, and returns how many bytes the messages count then. If memory is refused,
+/// nothing changes.
 fn change(
     retained: &mut BTreeMap<TopicName, Message>,
+    bytes: u64,
     operation: Operation,
-) -> Result<(), AllocError>
+) -> Result<u64, AllocError>
+    requires { retained_bytes retained.old.entries ≡ bytes }
     ensures done { OnOk result (retained.new.entries ≡ after retained.old.entries operation) }
+    ensures weighed { IfOk result (λ n. n ≡ retained_bytes retained.new.entries) }
     ensures refused { OnErr result (retained.new.entries ≡ retained.old.entries) }
 {
     match operation {
-        Operation::Set(found) => set(retained, found.topic().copy()?, found.message().copy()?),
-        Operation::Clear(topic) => {
-            retained.remove(&topic);
-            Ok(())
-        }
+        Operation::Set(found) => set_one(retained, bytes, &found),
+        Operation::Clear(topic) => Ok(clear_one(retained, bytes, &topic)),
         Operation::Sweep(moment) => {
             sweep(retained, moment);
-            Ok(())
+            Ok(bytes_of_all(retained))
         }
     }
 }
@@ -188,7 +249,7 @@ fn copy_of(
 {
     let mut copy = BTreeMap::new(alloc);
     for (topic, message) in retained {
-        set(&mut copy, topic.copy()?, message.copy()?)?;
+        drop(set(&mut copy, topic.copy()?, message.copy()?)?);
     }
     Ok(copy)
 }
@@ -239,6 +300,7 @@ impl Catalogue for MapCatalogue {
                 alloc,
                 retained: BTreeMap::new(alloc),
             },
+            bytes: 0,
             ledger: Ledger::new(alloc, limit)?,
         })
     }
@@ -262,7 +324,8 @@ impl Catalogue for MapCatalogue {
 
     fn apply(&mut self, entry: Entry) -> Result<(), AllocError> {
         let origin = entry.origin;
-        change(&mut self.messages.retained, entry.operation)?;
+        let bytes = change(&mut self.messages.retained, self.bytes, entry.operation)?;
+        self.bytes = bytes;
         self.ledger.count(origin);
         Ok(())
     }
@@ -298,6 +361,14 @@ impl Catalogue for MapCatalogue {
         self.messages.retained.len() as u32
     }
 
+    fn bytes(&self) -> u64 {
+        self.bytes
+    }
+
+    fn bytes_at(&self, topic: &TopicName) -> u64 {
+        bytes_if_any(topic, self.messages.retained.get(topic))
+    }
+
     fn expired_count(&self, now: u64) -> u32 {
         // For the proof: this call says that the limit is in its range.
         let _limit = self.ledger.limit().get();
@@ -311,6 +382,7 @@ impl Catalogue for MapCatalogue {
     fn copy(&self) -> Result<MapCatalogue, AllocError> {
         Ok(MapCatalogue {
             messages: self.messages.copy()?,
+            bytes: self.bytes,
             ledger: self.ledger.copy()?,
         })
     }

@@ -1,5 +1,6 @@
 //! How a connection ended, in the words of the log.
 
+use rs_metrics::End;
 use rs_server::{ServeFault, Served};
 use std::fmt;
 use std::fmt::{Display, Formatter};
@@ -27,6 +28,20 @@ impl CloseReason {
             Err(ServeFault::Read) => CloseReason::ReadFailed,
             Err(ServeFault::Write) => CloseReason::WriteFailed,
             Err(ServeFault::NoMemory) => CloseReason::NoMemory,
+        }
+    }
+
+    /// What is counted of it.
+    pub(crate) fn counted(&self) -> End {
+        match self {
+            CloseReason::Served(Served::ClientClosed) => End::ClientDisconnected,
+            CloseReason::Served(Served::EndOfInput) => End::EndOfInput,
+            CloseReason::Served(Served::CutInput) => End::CutInput,
+            CloseReason::Served(Served::ServerClosed(_)) => End::ClosedWithCode,
+            CloseReason::Served(Served::Dropped) => End::ClosedSilently,
+            CloseReason::ReadFailed => End::ReadFailed,
+            CloseReason::WriteFailed => End::WriteFailed,
+            CloseReason::NoMemory => End::OutOfMemory,
         }
     }
 

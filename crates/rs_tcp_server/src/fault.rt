@@ -12,10 +12,13 @@ pub enum ListenFault {
     /// The address is not an address, is in use, or may not be bound, or descriptors to watch clients were refused.
     #[error("the address cannot be listened on: {0}")]
     Address(io::Error),
+    /// The address for metrics is not an address, is in use, or may not be bound.
+    #[error("the address for metrics cannot be listened on: {0}")]
+    Metrics(io::Error),
     /// Memory was refused.
     #[error("out of memory")]
     NoMemory,
-    /// The thread of the store's writer, or that of the first client, cannot be started.
+    /// The thread of the store's writer, that of the first client, or that for metrics cannot be started.
     #[error("no thread can be started")]
     NoThread,
 }

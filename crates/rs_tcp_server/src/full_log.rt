@@ -1,16 +1,16 @@
-//! What the log tells of a store that is full.
+//! What the log tells of what the store lacks.
 
 use log::{Log, info, warn};
-use rs_intake_line::Fullness;
+use rs_intake_line::{Fullness, Lack};
 use std::sync::Arc;
-use std::sync::atomic::{AtomicBool, AtomicU64, Ordering};
+use std::sync::atomic::{AtomicU64, Ordering};
 
 /// What the log was told of the store. All turns share it, and whichever sees a change first writes the line.
 #[derive(Drop)]
 pub struct FullLog {
     fullness: Arc<Fullness>,
-    // Whether the last line said that the store is full.
-    told: AtomicBool,
+    // What the store lacked by the last line.
+    told: Fullness,
     // The time of the last line.
     last: AtomicU64,
 }
@@ -20,28 +20,42 @@ impl FullLog {
     pub fn new(fullness: Arc<Fullness>) -> FullLog {
         FullLog {
             fullness,
-            told: AtomicBool::new(false),
+            told: Fullness::new(),
             last: AtomicU64::new(u64::MAX),
         }
     }
 
-    /// Writes a line if the store has become full or takes new topics again, but at most one a second. What is not told then is told later,
-    /// if it is still so.
+    /// Writes a line if the store has come to lack topics or memory, or takes messages again, but at most one a second. What is not told
+    /// then is told later, if it is still so.
     pub(crate) fn update<H: Log>(&self, rt: &H, time: u64) {
-        let is_full = self.fullness.is_full();
-        if self.told.load(Ordering::SeqCst) == is_full {
+        let lack = self.fullness.lack();
+        if self.told.lack() == lack {
             return;
         }
         if self.last.swap(time, Ordering::SeqCst) == time {
             return;
         }
-        if self.told.swap(is_full, Ordering::SeqCst) == is_full {
-            return;
+        let before = self.told.swap(lack);
+        if before != lack {
+            tell(rt, time, before, lack);
         }
-        if is_full {
+    }
+}
+
+/// Writes the line that says what the store lacks, or what it lacks no more.
+fn tell<H: Log>(rt: &H, time: u64, before: Lack, lack: Lack) {
+    match (before, lack) {
+        (_, Lack::Topics) => {
             warn!(rt; target: "rstored", "{time} the store is full: a message for a new topic was refused");
-        } else {
+        }
+        (_, Lack::Memory) => {
+            warn!(rt; target: "rstored", "{time} the store has no memory left: a message was refused");
+        }
+        (Lack::Topics, Lack::Nothing) => {
             info!(rt; target: "rstored", "{time} the store may take new topics again: topics were cleared, or their messages expired");
+        }
+        (Lack::Nothing | Lack::Memory, Lack::Nothing) => {
+            info!(rt; target: "rstored", "{time} the store takes messages again");
         }
     }
 }

@@ -4,7 +4,7 @@
 //! clients until so many have connected. Each client has a line of its own to the store's writer, which has a thread. With as many clients
 //! as places, each client has a thread too. With more, each place has two, and `rs_tcp_watch` tells which clients have something to do. A
 //! connection may have a limit for how long it is idle, and the log of the handle has a line when each begins and ends, and when the store is
-//! full.
+//! full or lacks memory. [`Server::with_metrics`] lets one more thread tell what is counted meanwhile (`rs_metrics`).
 //!
 //! The connections of a client are a [`Turn`](rs_places_turns::Turn): [`ListenTurn`] takes the clients of a listener that all turns share, and
 //! closes each connection in its way. The lines of a full store are those of [`FullLog`].
@@ -17,12 +17,15 @@ mod close_reason;
 mod fault;
 mod full_log;
 mod opening;
+mod packet_output;
 mod polling;
 mod refused;
 mod server;
+mod telling;
 mod turn;
 
 pub use fault::ListenFault;
 pub use full_log::FullLog;
-pub use server::{Server, Summary};
+pub use packet_output::PacketOutput;
+pub use server::{Server, Settings, Summary};
 pub use turn::{ClientWord, ConnectionClock, ListenTurn};

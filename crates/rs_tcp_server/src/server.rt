@@ -1,6 +1,6 @@
 //! The server.
 
-ghost use Rattle.std.specs.Prelude.{◌≡◌, ◌+◌, ◌<◌, ◌≤◌, ℕ, List, IfOk};
+ghost use Rattle.std.specs.Prelude.{◌≡◌, ◌+◌, ◌<◌, ◌≤◌, ℕ, List, IfOk, length};
 ghost use Rattle.rs_message.specs.declared.entry.TheConstants.{MAX_LINES};
 ghost use Rattle.rs_intake.specs.declared.cause.Cause.{Cause};
 ghost use Rattle.rs_places.specs.Store.{IsStoreRun};
@@ -10,12 +10,16 @@ use crate::fault::ListenFault;
 use crate::full_log::FullLog;
 use crate::opening::turns;
 use crate::polling::time_polls;
-use crate::turn::ClientWord;
+use crate::telling::{Telling, descriptors_to_tell, end_telling, new_metrics, start_telling};
+use crate::turn::{ClientWord, ListenTurn};
 use log::{Log, warn};
-use rs_intake::blank_queue;
+use rs_intake::{BlankQueue, blank_queue};
 use rs_message::{LineCount, MAX_LINES, PlaceCount};
-use rs_places::run_store;
+use rs_metrics::{Limits, share};
+use rs_metrics_server::MetricsServer;
+use rs_places::{StoreEnd, run_store};
 use rs_places_pool::Runner;
+use rs_places_turns::FreeTurn;
 use rs_store::TopicLimit;
 use rs_tcp_sockets::{Listener, descriptor_limit, waiting_limit};
 use rs_tcp_watch::SocketWatch;
@@ -38,7 +42,28 @@ pub struct Server {
     idle: Option<Duration>,
     // How many clients may wait to be accepted, as the system has it.
     waiting: u64,
+    topics: TopicLimit,
+    memory: Option<u64>,
+    // What tells its numbers, if anybody is told.
+    metrics: Option<MetricsServer>,
     ghost each: { places ≡ blank.places },
+}
+
+/// What a server is to be.
+#[derive(Clone, Copy, Debug)]
+pub struct Settings {
+    /// How many connections it accepts: none, if that is 0.
+    pub connections: u64,
+    /// How many topics may hold a message.
+    pub topics: TopicLimit,
+    /// How many bytes the retained messages may count (see [`bytes_of`](rs_store::bytes_of)). Any number, if it is not given.
+    pub memory: Option<u64>,
+    /// How many clients read the store at the same time.
+    pub places: PlaceCount,
+    /// How many clients are served at the same time.
+    pub clients: u16,
+    /// After how long an idle connection ends. Never, if it is not given.
+    pub idle: Option<Duration>,
 }
 
 /// What a server did.
@@ -56,9 +81,10 @@ impl Server {
     /// Binds an address: a host's name, an IPv4 or an IPv6 address, and a port, as `localhost:1883` or `[::1]:1883`. Port 0 takes one
     /// that is free. It will accept `connections` connections, none if that is 0, and serve `clients` clients at the same time, but at
     /// least as many as there are `places`, and at most [`MAX_LINES`]. For each of `places` there is a seat, by which one client at a time
-    /// takes the version that it reads. The store is empty, and holds messages of at most `limit` topics. If `idle` is given, a connection
-    /// ends if no byte came for so long, or if no byte of what waits for its client was taken for so long. As many clients may wait to be
-    /// accepted as are served at the same time, but at least 4,096, and no more than the system lets wait.
+    /// takes the version that it reads. The store is empty. It holds messages of at most as many `topics`, which count at most as many bytes
+    /// as `memory` says. If `idle` is given, a connection ends if no byte came for so long, or if no byte of what waits for its client was
+    /// taken for so long. As many clients may wait to be accepted as are served at the same time, but at least 4,096, and no more than the
+    /// system lets wait.
     ///
     /// # Errors
     ///
@@ -68,13 +94,17 @@ impl Server {
         rt: &H,
         alloc: Global,
         address: &str,
-        connections: u64,
-        limit: TopicLimit,
-        places: PlaceCount,
-        clients: u16,
-        idle: Option<Duration>,
+        settings: Settings,
     ) -> Result<Server, ListenFault> {
-        let blank = Blank::new(alloc, limit, places)?;
+        let Settings {
+            connections,
+            topics,
+            memory,
+            places,
+            clients,
+            idle,
+        } = settings;
+        let blank = Blank::new(alloc, topics, places)?.with_memory(memory.unwrap_or(u64::MAX));
         match Listener::bind(rt, alloc, address, connections, idle) {
             Ok(listener) => {
                 listener.let_wait(clients);
@@ -86,6 +116,9 @@ impl Server {
                     clients,
                     idle,
                     waiting: waiting_limit(rt).unwrap_or(u64::MAX),
+                    topics,
+                    memory,
+                    metrics: None,
                 })
             }
             Err(error) => Err(ListenFault::from(error)),
@@ -104,6 +137,63 @@ impl Server {
         }
     }
 
+    /// The same server. While it runs, a thread tells by HTTP what is counted (`rs_metrics_server`): it binds this address, which is one as
+    /// those of clients are.
+    ///
+    /// # Errors
+    ///
+    /// [`Metrics`](ListenFault::Metrics) if `address` is not an address, is in use, or may not be bound.
+    pub fn with_metrics<H: Net<Listener = TcpListener, Stream = TcpStream>>(
+        self,
+        rt: &H,
+        address: &str,
+    ) -> Result<Server, ListenFault>
+        ensures same { IfOk result (λ server. (server.blank.limit ≡ self.blank.limit) × (server.clients ≡ self.clients) × (server.places ≡ self.places)) }
+    {
+        let Server {
+            alloc,
+            listener,
+            blank,
+            places,
+            clients,
+            idle,
+            waiting,
+            topics,
+            memory,
+            metrics: _before,
+        } = self;
+        match MetricsServer::bind(rt, alloc, address) {
+            Ok(metrics) => Ok(Server {
+                alloc,
+                listener,
+                blank,
+                places,
+                clients,
+                idle,
+                waiting,
+                topics,
+                memory,
+                metrics: Some(metrics),
+            }),
+            Err(error) => Err(ListenFault::Metrics(error)),
+        }
+    }
+
+    /// The address that was bound for metrics, with its port, if one was.
+    ///
+    /// # Errors
+    ///
+    /// [`Metrics`](ListenFault::Metrics) if the system does not tell it, or memory is refused.
+    pub fn metrics_address(&self) -> Result<Option<String>, ListenFault> {
+        let Some(metrics) = &self.metrics else {
+            return Ok(None);
+        };
+        match metrics.address() {
+            Ok(address) => Ok(Some(address)),
+            Err(error) => Err(ListenFault::Metrics(error)),
+        }
+    }
+
     /// Serves clients, until all connections were accepted and have ended. Each client has a line of its own to the store's writer.
     ///
     /// With as many clients as places, each client has a thread. If a client's thread cannot be started, the caller's thread serves it and
@@ -113,8 +203,8 @@ impl Server {
     /// ends that connection alone. Once the last connection was accepted, clients that have none may need up to a second to end.
     ///
     /// The log of `rt` has a line when each connection begins, and one that says how it ended and what it was refused, one when the store is
-    /// full, one when it may take new topics again, and before them all a warning if there are too few descriptors, or if too few clients may
-    /// wait to be accepted.
+    /// full or lacks memory, one when it takes new topics or messages again, and before them all a warning if there are too few descriptors, or
+    /// if too few clients may wait to be accepted.
     ///
     /// The number of changes is that of a run of the store with so many clients, as [`run_store`] says it. The clause is weak: any number meets
     /// it, since it says nothing of what the clients sent.
@@ -122,8 +212,9 @@ impl Server {
     /// # Errors
     ///
     /// [`NoMemory`](ListenFault::NoMemory) if memory is refused for the store, the queue, the gates or the threads,
-    /// [`NoThread`](ListenFault::NoThread) if the thread of the store's writer, or that of the first client or the first lane, cannot be started,
-    /// [`Address`](ListenFault::Address) if the descriptors are refused by which clients are watched. No client was served, as the code is made; no clause says so.
+    /// [`NoThread`](ListenFault::NoThread) if the thread of the store's writer, that of the first client or the first lane, or that for metrics
+    /// cannot be started, [`Address`](ListenFault::Address) if the descriptors are refused by which clients are watched, or by which the thread
+    /// for metrics is ended. No client was served, as the code is made; no clause says so.
     pub fn run<H: Clock + Log + Threads + Wait + Copy + Send + Sync + 'static>(
         self,
         rt: H,
@@ -142,26 +233,96 @@ impl Server {
             clients,
             idle,
             waiting,
+            topics,
+            memory,
+            metrics: server,
         } = self;
         let alone = u16::from(places.get());
-        let lines = line_count(&rt, clients, alone);
-        tell_of_waiting(&rt, lines.get(), waiting);
-        let queue = blank_queue(alloc, lines)?;
-        let full = FullLog::new(queue.fullness()?);
-        let queue = queue.with_polls(time_polls(&rt, alloc));
-        let word = if lines.get() > alone {
-            ClientWord::Client
-        } else {
-            ClientWord::Place
+        let lines = line_count(&rt, clients, alone, descriptors_to_tell(&server));
+        let limits = Limits {
+            clients: u64::from(lines.get()),
+            topics: u64::from(topics.get()),
+            bytes: memory,
         };
-        let turns = turns(rt, alloc, Arc::try_clone(&listener)?, full, lines, word)?;
-        let runner = make_runner(rt, alloc, listener, lines.get(), alone, idle)?;
-        let end = run_store(rt, alloc, blank, queue, turns, runner)?;
+        tell_of_waiting(&rt, lines.get(), waiting);
+        let (queue, turns, runner, telling) = prepare(
+            rt, alloc, listener, lines, alone, idle, limits, server,
+        )?;
+        let end = serve(rt, alloc, blank, queue, turns, runner, telling)?;
         Ok(Summary {
             threads: end.threads,
             clients: lines.get(),
             changes: end.changes,
         })
+    }
+}
+
+/// What is there before the first client is served: the queue of the store, a turn for each client, what serves them, and the thread that
+/// tells the numbers.
+type Ready<H> = (
+    BlankQueue,
+    Vec<FreeTurn<ListenTurn<H>>>,
+    Runner<SocketWatch<H>>,
+    Option<Telling>,
+);
+
+/// Makes ready to serve so many clients.
+fn prepare<H: Clock + Log + Threads + Wait + Copy + Send + Sync + 'static>(
+    rt: H,
+    alloc: Global,
+    listener: Arc<Listener>,
+    lines: LineCount,
+    places: u16,
+    idle: Option<Duration>,
+    limits: Limits,
+    server: Option<MetricsServer>,
+) -> Result<Ready<H>, ListenFault>
+    ensures { IfOk result (λ ready. (ready.0.places ≡ lines) × (length ready.1.items ≡ lines)) }
+{
+    let metrics = new_metrics(&rt, alloc, &server, limits)?;
+    let queue = blank_queue(alloc, lines)?;
+    let full = FullLog::new(queue.fullness()?);
+    let queue = queue
+        .with_polls(time_polls(&rt, alloc))
+        .with_metrics(share(&metrics)?);
+    let word = if lines.get() > places {
+        ClientWord::Client
+    } else {
+        ClientWord::Place
+    };
+    let turns = turns(
+        rt,
+        alloc,
+        Arc::try_clone(&listener)?,
+        full,
+        lines,
+        word,
+        &metrics,
+    )?;
+    let runner = make_runner(rt, alloc, listener, lines.get(), places, idle)?;
+    let telling = start_telling(rt, alloc, server, metrics)?;
+    Ok((queue, turns, runner, telling))
+}
+
+/// Runs the store, and ends then the thread that tells its numbers.
+fn serve<H: Clock + Log + Threads + Wait + Copy + Send + Sync + 'static>(
+    rt: H,
+    alloc: Global,
+    blank: Blank,
+    queue: BlankQueue,
+    turns: Vec<FreeTurn<ListenTurn<H>>>,
+    runner: Runner<SocketWatch<H>>,
+    telling: Option<Telling>,
+) -> Result<StoreEnd<ListenTurn<H>>, ListenFault>
+    requires { queue.places ≡ length turns.items }
+    ensures { IfOk result (λ end. (before : List Connections) × (after : List Connections)
+        × IsStoreRun blank.limit queue.places before after end.version end.changes end.cause) }
+{
+    let end = run_store(rt, alloc, blank, queue, turns, runner);
+    end_telling(&rt, telling);
+    match end {
+        Ok(end) => Ok(end),
+        Err(fault) => Err(ListenFault::from(fault)),
     }
 }
 
@@ -207,42 +368,43 @@ fn wanted_clients(clients: u16, places: u16) -> u16
     }
 }
 
-/// How many clients are served, each with a line: as many as wanted, or fewer if there are too few descriptors.
-fn line_count<H: Log>(rt: &H, clients: u16, places: u16) -> LineCount
+/// How many clients are served, each with a line: as many as wanted, or fewer if there are too few descriptors. To tell numbers takes `told`
+/// of these.
+fn line_count<H: Log>(rt: &H, clients: u16, places: u16, told: u8) -> LineCount
     requires some { 0 < places }
     requires small { places < MAX_LINES }
     ensures alone { clients ≤ places → result ≡ places }
     ensures more { places < clients → (places < result) × (result ≤ clients) }
 {
     let wanted = wanted_clients(clients, places);
-    let Some(lines) = LineCount::new(affordable(rt, wanted, places)) else {
+    let Some(lines) = LineCount::new(affordable(rt, wanted, places, told)) else {
         unreachable!()
     };
     lines
 }
 
 /// How many descriptors are needed beside those of the clients: four for the listener and the standard streams, and if there are more
-/// clients than places, one for each place and one more, by which clients are watched.
-fn other_descriptors(clients: u16, places: u16) -> u64
-    ensures more { places < clients → result ≡ places + 5 }
-    ensures no_more { clients ≤ places → result ≡ 4 }
+/// clients than places, one for each place and one more, by which clients are watched. To tell numbers takes `told` more.
+fn other_descriptors(clients: u16, places: u16, told: u8) -> u64
+    ensures more { places < clients → result ≡ places + 5 + told }
+    ensures no_more { clients ≤ places → result ≡ 4 + told }
 {
     if clients > places {
-        u64::from(places) + 5
+        u64::from(places) + 5 + u64::from(told)
     } else {
-        4
+        4 + u64::from(told)
     }
 }
 
 /// How many of these clients are served: all, or if there are more than places, as many as the process has descriptors for, and still more
 /// than there are places. If it has too few, the log has a warning. Each client that waits is given a connection, so the accepts of more
 /// would fail all the time.
-fn affordable<H: Log>(rt: &H, clients: u16, places: u16) -> u16
+fn affordable<H: Log>(rt: &H, clients: u16, places: u16, told: u8) -> u16
     ensures most { result ≤ clients }
     ensures more { places < clients → places < result }
     ensures no_more { clients ≤ places → result ≡ clients }
 {
-    let others = other_descriptors(clients, places);
+    let others = other_descriptors(clients, places, told);
     let needed = u64::from(clients) + others;
     let limit = descriptor_limit().unwrap_or(u64::MAX);
     if limit >= needed {

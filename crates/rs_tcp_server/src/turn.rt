@@ -6,8 +6,10 @@ ghost use Rattle.rs_places_turns.specs.Turns.{TakesBack, none_given};
 
 use crate::close_reason::CloseReason;
 use crate::full_log::FullLog;
+use crate::packet_output::PacketOutput;
 use crate::refused::Refused;
 use log::{Log, info};
+use rs_metrics::Meter;
 use rs_places_turns::{Connection, EndedConnection, Turn};
 use rs_server::Tally;
 use rs_tcp_sockets::{Accepted, FromClient, Listener, SystemClock, ToClient, abandon, close};
@@ -21,13 +23,14 @@ use std::net::SocketAddr;
 use std::sync::Arc;
 use std::time::Clock;
 
-/// The system's time. With each packet it looks whether the log has to tell of a full store.
+/// The system's time. It is asked once for each packet: it counts that, and looks whether the log has to tell of a full store.
 #[derive(Drop)]
 pub struct ConnectionClock<H: Clock> {
     rt: H,
     clock: SystemClock,
     // None if it has too many owners.
     full: Option<Arc<FullLog>>,
+    meter: Meter,
 }
 
 /// The word by which the log calls a client, before its number.
@@ -72,6 +75,7 @@ impl Display for LoggedConnection {
 impl<H: Clock + Log> rs_server::Clock for ConnectionClock<H> {
     /// The time, in whole seconds since 1970.
     fn now(&mut self) -> u64 {
+        self.meter.count_packet_in();
         let time = self.clock.now(&self.rt);
         if let Some(full) = &self.full {
             full.update(&self.rt, time);
@@ -90,6 +94,7 @@ pub struct ListenTurn<H: Clock> {
     // That of the last connection, so that its last moment stands if the clock cannot be read.
     clock: SystemClock,
     word: ClientWord,
+    meter: Meter,
     // The number of the client's line.
     line: u16,
     // That of the last connection that it gave. The first is 1.
@@ -99,13 +104,14 @@ pub struct ListenTurn<H: Clock> {
 }
 
 impl<H: Clock> ListenTurn<H> {
-    /// Those of the client of this line, which the log calls by the word.
+    /// Those of the client of this line, which the log calls by the word. `meter` counts for this line.
     pub fn new(
         rt: H,
         alloc: Global,
         listener: Arc<Listener>,
         full: Arc<FullLog>,
         word: ClientWord,
+        meter: Meter,
         line: u16,
     ) -> ListenTurn<H> {
         ListenTurn {
@@ -115,6 +121,7 @@ impl<H: Clock> ListenTurn<H> {
             full,
             clock: SystemClock::new(),
             word,
+            meter,
             line,
             number: 0,
             given: None,
@@ -125,7 +132,7 @@ impl<H: Clock> ListenTurn<H> {
 impl<H: Clock + Log + Copy + Send> Turn for ListenTurn<H> {
     type In = FromClient;
 
-    type Out = ToClient;
+    type Out = PacketOutput<ToClient>;
 
     type Time = ConnectionClock<H>;
 
@@ -133,13 +140,18 @@ impl<H: Clock + Log + Copy + Send> Turn for ListenTurn<H> {
     ///
     /// Before, it takes some memory and gives it back: what the allocator keeps for a thread is there then, even if no memory is left when
     /// the thread's first client comes.
-    fn next(&mut self) -> Option<Connection<FromClient, ToClient, ConnectionClock<H>>> {
+    fn next(
+        &mut self,
+    ) -> Option<Connection<FromClient, PacketOutput<ToClient>, ConnectionClock<H>>> {
         drop(Vec::<u8>::with_capacity(self.alloc, 1));
         let Accepted {
             input,
             output,
             peer,
-        } = self.listener.accept(&self.rt, self.alloc)?;
+        } = self
+            .listener
+            .accept_counted(&self.rt, self.alloc, &self.meter)?;
+        self.meter.count_opened();
         self.number = self.number.saturating_add(1);
         let id = LoggedConnection {
             word: self.word,
@@ -153,11 +165,12 @@ impl<H: Clock + Log + Copy + Send> Turn for ListenTurn<H> {
         info!(self.rt; target: "rstored", "{time} {id}: connected");
         Some(Connection {
             input,
-            output,
+            output: PacketOutput::new(output, again(&self.meter)),
             clock: ConnectionClock {
                 rt: self.rt,
                 clock,
                 full: Arc::try_clone(&self.full).ok(),
+                meter: again(&self.meter),
             },
         })
     }
@@ -165,11 +178,11 @@ impl<H: Clock + Log + Copy + Send> Turn for ListenTurn<H> {
     /// Closes the connection, as [`abandon`] does if it failed, else as [`close`].
     fn end<N: StoreName>(
         &mut self,
-        ended: EndedConnection<FromClient, ToClient, ConnectionClock<H>>,
+        ended: EndedConnection<FromClient, PacketOutput<ToClient>, ConnectionClock<H>>,
         _told: &Told<N>,
     )
         ensures { TakesBack none_given
-            (ending_of (⟦<FromClient as Read>⟧.remaining (inner_of ended.connection.input)) (⟦<ToClient as Write>⟧.contents (inner_of ended.connection.output))
+            (ending_of (⟦<FromClient as Read>⟧.remaining (inner_of ended.connection.input)) (⟦<PacketOutput<ToClient> as Write>⟧.contents (inner_of ended.connection.output))
             (⟦<ConnectionClock<H> as rs_server::Clock>⟧.moments ended.connection.clock) (failures_of ended.connection.input) (failures_of ended.connection.output) ended.served)
             none_given }
     {
@@ -188,9 +201,10 @@ impl<H: Clock + Log + Copy + Send> Turn for ListenTurn<H> {
             rt: _,
             clock,
             full: _full,
+            meter: _meter,
         } = clock;
         self.clock = clock;
-        let (input, output) = (input.into_inner(), output.into_inner());
+        let (input, output) = (input.into_inner(), output.into_inner().into_inner());
         let (read, written) = (input.count(), output.count());
         let reason = CloseReason::new(served, input.is_unwritten());
         if reason.is_failed() {
@@ -199,6 +213,7 @@ impl<H: Clock + Log + Copy + Send> Turn for ListenTurn<H> {
             // The client may have gone.
             let _ = close(&self.rt, input, output);
         }
+        self.meter.count_ended(reason.counted());
         let time = self.clock.now(&self.rt);
         self.full.update(&self.rt, time);
         let Tally { packets, refusals } = tally;
@@ -206,5 +221,13 @@ impl<H: Clock + Log + Copy + Send> Turn for ListenTurn<H> {
         if let Some(id) = self.given.take() {
             info!(self.rt; target: "rstored", "{time} {id}: {reason}, {packets} packets, {read} bytes in, {written} bytes out{refused}");
         }
+    }
+}
+
+/// Another one that counts for the same line. It counts nothing, if the metrics have too many owners.
+fn again(meter: &Meter) -> Meter {
+    match meter.again() {
+        Ok(meter) => meter,
+        Err(_) => Meter::none(),
     }
 }

@@ -5,6 +5,7 @@ use crate::halves::{ReadHalf, WriteHalf};
 use crate::polling::{Pollers, Polling};
 use crate::splitting::{finish, give_up, split};
 use crate::stream::SharedStream;
+use rs_metrics::Meter;
 use std::alloc::Global;
 use std::io;
 use std::io::{Read, Write};
@@ -22,7 +23,7 @@ pub type ToClient = WriteHalf<SharedStream>;
 
 /// The two halves of a connection. What is written out is sent at once (TCP_NODELAY). If `idle` is given, a read fails for which no
 /// byte comes for so long, and so does a write of which no byte is taken for so long. Of all connections with these `pollers`, only so many
-/// poll at the same time.
+/// poll at the same time. `meter` counts the bytes that the socket gives and takes.
 ///
 /// # Errors
 ///
@@ -32,6 +33,7 @@ pub fn open(
     stream: TcpStream,
     idle: Option<Duration>,
     pollers: Arc<Pollers>,
+    meter: Meter,
 ) -> io::Result<(FromClient, ToClient)> {
     // Of a client that has gone already this may fail. The next read tells.
     let _ = stream.set_nodelay(true);
@@ -39,7 +41,7 @@ pub fn open(
         stream.set_read_timeout(idle)?;
         stream.set_write_timeout(idle)?;
     }
-    let (reader, writer) = SharedStream::pair(alloc, stream)?;
+    let (reader, writer) = SharedStream::pair(alloc, stream, meter)?;
     split(alloc, Polling::new(reader, pollers), writer)
 }
 

@@ -7,6 +7,7 @@ use crate::connection::{FromClient, ToClient, open};
 use crate::limits::{BACKLOG, FIRST_PAUSE, LONGEST_PAUSE};
 use crate::polling::Pollers;
 use libc::net::listen;
+use rs_metrics::Meter;
 use std::alloc::{AllocError, Global};
 use std::net::{Net, SocketAddr, TcpListener, TcpStream};
 use std::os::fd::{AsRawFd, RawFd};
@@ -87,10 +88,20 @@ impl Listener {
     /// An accept that fails, or for which memory or a descriptor is refused, counts as one of the connections. If it was not the
     /// last one, there is a pause after it, which doubles with each further failure, from 10 milliseconds up to a second.
     pub fn accept<H: Clock>(&self, rt: &H, alloc: Global) -> Option<Accepted> {
+        self.accept_counted(rt, alloc, &Meter::none())
+    }
+
+    /// The same. The bytes of the connection are counted as those of others of this meter.
+    pub fn accept_counted<H: Clock>(
+        &self,
+        rt: &H,
+        alloc: Global,
+        meter: &Meter,
+    ) -> Option<Accepted> {
         let mut pause = FIRST_PAUSE;
         for _ in 0..u64::MAX {
             let left = self.count_one()?;
-            if let Ok(accepted) = self.accept_once(alloc) {
+            if let Ok(accepted) = self.accept_once(alloc, meter) {
                 return Some(accepted);
             }
             if left > 0 {
@@ -111,10 +122,10 @@ impl Listener {
         before.ok()?.checked_sub(1)
     }
 
-    fn accept_once(&self, alloc: Global) -> io::Result<Accepted> {
+    fn accept_once(&self, alloc: Global, meter: &Meter) -> io::Result<Accepted> {
         let (stream, peer) = self.socket.accept()?;
         let pollers = Arc::try_clone(&self.pollers)?;
-        let (input, output) = open(alloc, stream, self.idle, pollers)?;
+        let (input, output) = open(alloc, stream, self.idle, pollers, meter.again()?)?;
         Ok(Accepted {
             input,
             output,

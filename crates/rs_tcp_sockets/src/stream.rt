@@ -3,6 +3,7 @@
 use crate::polling::Pollable;
 use libc::net::{POLLIN, poll};
 use libc::types::pollfd;
+use rs_metrics::Meter;
 use std::alloc::{AllocError, Global};
 use std::io;
 use std::io::{Read, Write};
@@ -12,11 +13,12 @@ use std::sync::Arc;
 use std::sync::atomic::{AtomicBool, Ordering};
 use std::time::Duration;
 
-/// A TCP stream, and whether something was sent by it since its reader last asked.
+/// A TCP stream, whether something was sent by it since its reader last asked, and what counts its bytes.
 #[derive(Drop)]
 struct Connected {
     stream: TcpStream,
     answered: AtomicBool,
+    meter: Meter,
 }
 
 /// One of the owners of a TCP stream. They share its descriptor, which is closed when the last of them is dropped.
@@ -26,14 +28,16 @@ pub struct SharedStream {
 }
 
 impl SharedStream {
-    /// Two owners of a stream. If memory is refused, it is closed.
+    /// Two owners of a stream, whose bytes are counted. If memory is refused, it is closed.
     pub(crate) fn pair(
         alloc: Global,
         stream: TcpStream,
+        meter: Meter,
     ) -> Result<(SharedStream, SharedStream), AllocError> {
         let connected = Connected {
             stream,
             answered: AtomicBool::new(false),
+            meter,
         };
         let shared = Arc::new(alloc, connected).map_err(|_| AllocError)?;
         let other = Arc::try_clone(&shared)?;
@@ -50,7 +54,9 @@ impl AsRawFd for SharedStream {
 impl Read for SharedStream {
     fn read(&mut self, buf: &mut [u8]) -> io::Result<usize> {
         let mut stream: &TcpStream = &self.shared.stream;
-        stream.read(buf)
+        let size = stream.read(buf)?;
+        self.shared.meter.add_bytes_in(size);
+        Ok(size)
     }
 }
 
@@ -75,7 +81,9 @@ impl Write for SharedStream {
     fn write(&mut self, buf: &[u8]) -> io::Result<usize> {
         self.shared.answered.store(true, Ordering::SeqCst);
         let mut stream: &TcpStream = &self.shared.stream;
-        stream.write(buf)
+        let size = stream.write(buf)?;
+        self.shared.meter.add_bytes_out(size);
+        Ok(size)
     }
 
     fn flush(&mut self) -> io::Result<()> {

@@ -4,6 +4,7 @@
 
 mod messages;
 mod root;
+mod totals;
 mod tree;
 
 pub use messages::TreeMessages;

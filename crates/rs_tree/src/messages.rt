@@ -1,21 +1,24 @@
 //! The messages of a catalogue in a tree of levels.
 
-ghost use Rattle.std.specs.Prelude.{◌≡◌, ◌-◌, ◌^◌, ◌≤◌, [], nat_le, length, map, IfOk, OnOk, OnErr};
+ghost use Rattle.std.specs.Prelude.{◌≡◌, ◌-◌, ◌^◌, ◌<◌, ◌≤◌, [], nat_le, length, map, IfOk, OnOk, OnErr};
 ghost use Rattle.std.specs.List.{filter as filter_list};
 ghost use Rattle.std.specs.List.Sorted.{IsStrictlySortedBy};
 ghost use Rattle.std.specs.BTreeMap.{insert_entry, is_at};
-ghost use Rattle.std.specs.Option.{option_map};
+ghost use Rattle.std.specs.Option.{option_copied, option_map};
 ghost use Rattle.std.specs.Map.{keys_of, remove_entry};
 ghost use Rattle.rs_topic.specs.Order.{topic_cmp};
+ghost use Rattle.rs_store.specs.Bytes.{bytes_at, retained_bytes};
 ghost use Rattle.rs_store.specs.Contents.{after, found_of, if_fits, is_answered, is_gone, stays};
 ghost use Rattle.rs_store.specs.Expiring.{first_end};
+ghost use Rattle.rs_tree_bucket.specs.Weights.{bytes_if_found};
 ghost use Rattle.rs_tree_branch.specs.Spots.{pairs};
 ghost use Rattle.rs_store.specs.declared.limit.TheConstants.{MAX_TOPICS};
-ghost use Rattle.rs_tree.specs.Trees.{ArePlaced, IsTree};
+ghost use Rattle.rs_tree.specs.Trees.{ArePlaced, AreTotals, IsTree};
 
 use crate::root::Root;
+use crate::totals::Totals;
 use rs_message::{Found, Operation};
-use rs_store::{Answer, Messages, Stop, TopicLimit};
+use rs_store::{Answer, Messages, Stop, TopicLimit, bytes_of};
 use rs_topic::{TopicFilter, TopicName};
 use rs_tree_branch::{IndexPath, Remains};
 use std::alloc::{AllocError, Global};
@@ -29,7 +32,7 @@ use std::marker::Model;
 pub struct TreeMessages {
     alloc: Global,
     root: Root,
-    count: u32,
+    totals: Totals,
 }
 
 impl Model for TreeMessages {
@@ -42,46 +45,85 @@ impl Model for TreeMessages {
 
     ghost view = { λ m. pairs m.root };
 
-    ghost invariant = { λ m. IsTree m.root m.count };
+    ghost invariant = { λ m. IsTree m.root m.totals };
 }
 
-/// Sets one topic and returns how many hold a message then. If memory is refused, nothing changes.
+/// How many bytes a message counts, 0 if there is none.
+fn bytes_if_found(found: Option<&Found>) -> u64
+    ensures { result ≡ bytes_if_found (option_copied found.entry) }
+{
+    match found {
+        Some(found) => bytes_of(found.topic(), found.message()),
+        None => 0,
+    }
+}
+
+/// Sets one topic and returns the totals then. If memory is refused, nothing changes.
 fn set_one(
     root: &mut Root,
     alloc: Global,
-    count: u32,
+    totals: Totals,
     found: Found,
     path: &mut IndexPath,
-) -> Result<u32, AllocError>
+) -> Result<Totals, AllocError>
     requires placed { ArePlaced root.old }
     requires sorted { IsStrictlySortedBy topic_cmp (keys_of (pairs root.old)) }
-    requires counted { length (pairs root.old) ≡ count }
-    requires small { count ≤ MAX_TOPICS }
+    requires totals { AreTotals (pairs root.old) totals }
+    requires small { totals.count ≤ MAX_TOPICS }
     ensures done { OnOk result (pairs root.new ≡ insert_entry topic_cmp (pairs root.old) found.topic found.message) }
-    ensures counted { IfOk result (λ n. n ≡ length (insert_entry topic_cmp (pairs root.old) found.topic found.message)) }
+    ensures totals { IfOk result (AreTotals (insert_entry topic_cmp (pairs root.old) found.topic found.message)) }
     ensures placed { ArePlaced root.new }
     ensures refused { OnErr result (root.new ≡ root.old) }
 {
-    let was = root.set(alloc, found, path)?;
-    if was { Ok(count) } else { Ok(count + 1) }
+    let size = bytes_of(found.topic(), found.message());
+    // Never: all messages together count less than 2 to the power of 46 bytes.
+    let Some(both) = totals.bytes.checked_add(size) else {
+        return Err(AllocError);
+    };
+    let old = root.set(alloc, found, path)?;
+    let gone = bytes_if_found(old.as_ref());
+    let bytes = both - gone;
+    if old.is_some() {
+        return Ok(Totals {
+            count: totals.count,
+            bytes,
+        });
+    }
+    Ok(Totals {
+        count: totals.count + 1,
+        bytes,
+    })
 }
 
-/// Clears one topic and returns how many hold a message then. If memory is refused, nothing changes.
+/// Clears one topic and returns the totals then. If memory is refused, nothing changes.
 fn clear_one(
     root: &mut Root,
     alloc: Global,
-    count: u32,
+    totals: Totals,
     topic: &TopicName,
-) -> Result<u32, AllocError>
+) -> Result<Totals, AllocError>
     requires placed { ArePlaced root.old }
-    requires counted { length (pairs root.old) ≡ count }
+    requires totals { AreTotals (pairs root.old) totals }
     ensures done { OnOk result (pairs root.new ≡ remove_entry (is_at (topic_cmp topic.now)) (pairs root.old)) }
-    ensures counted { IfOk result (λ n. n ≡ length (remove_entry (is_at (topic_cmp topic.now)) (pairs root.old))) }
+    ensures totals { IfOk result (AreTotals (remove_entry (is_at (topic_cmp topic.now)) (pairs root.old))) }
     ensures placed { ArePlaced root.new }
     ensures refused { OnErr result (root.new ≡ root.old) }
 {
-    let was = root.clear(alloc, topic.as_bytes())?;
-    if was { Ok(count - 1) } else { Ok(count) }
+    let name = topic.as_bytes();
+    let gone = bytes_if_found(root.find(name));
+    let bytes = totals.bytes - gone;
+    let was = root.clear(alloc, name)?;
+    if was {
+        Ok(Totals {
+            count: totals.count - 1,
+            bytes,
+        })
+    } else {
+        Ok(Totals {
+            count: totals.count,
+            bytes,
+        })
+    }
 }
 
 /// How many of the messages are expired.
@@ -101,63 +143,67 @@ fn earliest_of(root: &Root) -> u64
     root.earliest(u64::MAX)
 }
 
-/// Removes the messages that are expired and returns how many topics hold a message then. If memory is refused, nothing changes.
+/// Removes the messages that are expired and returns the totals then, which it counts anew. If memory is refused, nothing changes.
 fn sweep(
     root: &mut Root,
     remains: &mut Remains,
     alloc: Global,
     moment: u64,
-) -> Result<u32, AllocError>
+) -> Result<Totals, AllocError>
     requires placed { ArePlaced root.old }
     requires small { length (pairs root.old) ≤ MAX_TOPICS }
+    requires light { retained_bytes (pairs root.old) < 2 ^ 64 }
     ensures done { OnOk result (pairs root.new ≡ filter_list (stays moment) (pairs root.old)) }
-    ensures counted { IfOk result (λ n. n ≡ length (filter_list (stays moment) (pairs root.old))) }
+    ensures totals { IfOk result (AreTotals (filter_list (stays moment) (pairs root.old))) }
     ensures placed { ArePlaced root.new }
     ensures refused { OnErr result (root.new ≡ root.old) }
 {
     root.sweep(alloc, moment, remains)?;
-    Ok(root.len() as u32)
+    let mut bytes = 0;
+    root.add_bytes(&mut bytes);
+    Ok(Totals {
+        count: root.len() as u32,
+        bytes,
+    })
 }
 
-/// Sets or clears one topic, or removes what is expired, and returns how many topics hold a message then. If memory is refused,
-/// nothing changes.
+/// Sets or clears one topic, or removes what is expired, and returns the totals then. If memory is refused, nothing changes.
 fn change(
     root: &mut Root,
     remains: &mut Remains,
     alloc: Global,
-    count: u32,
+    totals: Totals,
     operation: Operation,
     path: &mut IndexPath,
-) -> Result<u32, AllocError>
+) -> Result<Totals, AllocError>
     requires placed { ArePlaced root.old }
     requires sorted { IsStrictlySortedBy topic_cmp (keys_of (pairs root.old)) }
-    requires counted { length (pairs root.old) ≡ count }
-    requires small { count ≤ MAX_TOPICS }
+    requires totals { AreTotals (pairs root.old) totals }
+    requires small { totals.count ≤ MAX_TOPICS }
     ensures done { OnOk result (pairs root.new ≡ after (pairs root.old) operation) }
-    ensures counted { IfOk result (λ n. n ≡ length (after (pairs root.old) operation)) }
+    ensures totals { IfOk result (AreTotals (after (pairs root.old) operation)) }
     ensures placed { ArePlaced root.new }
     ensures refused { OnErr result (root.new ≡ root.old) }
 {
     match operation {
-        Operation::Set(found) => set_one(root, alloc, count, found, path),
-        Operation::Clear(topic) => clear_one(root, alloc, count, &topic),
+        Operation::Set(found) => set_one(root, alloc, totals, found, path),
+        Operation::Clear(topic) => clear_one(root, alloc, totals, &topic),
         Operation::Sweep(moment) => sweep(root, remains, alloc, moment),
     }
 }
 
 /// At most `limit` topics hold a message after the operation.
-#[tactic(auto, using(crate::proofs::Trees::space_below))]
-fn has_space(root: &Root, count: u32, limit: TopicLimit, operation: &Operation) -> bool
-    requires tree { IsTree root.now count }
-    requires few { count ≤ limit }
+fn has_space(root: &Root, totals: Totals, limit: TopicLimit, operation: &Operation) -> bool
+    requires tree { IsTree root.now totals }
+    requires few { totals.count ≤ limit }
     ensures { result ≡ nat_le (length (after (pairs root.now) operation.now)) limit }
 {
     match operation {
         Operation::Set(found) => {
-            if count < limit.get() {
+            if totals.count < limit.get() {
                 return true;
             }
-            root.holds(found.topic().as_bytes())
+            root.find(found.topic().as_bytes()).is_some()
         }
         Operation::Clear(_) => true,
         Operation::Sweep(_) => true,
@@ -193,7 +239,7 @@ impl TreeMessages {
         Ok(TreeMessages {
             alloc,
             root: Root::new(alloc)?,
-            count: 0,
+            totals: Totals { count: 0, bytes: 0 },
         })
     }
 
@@ -204,7 +250,7 @@ impl TreeMessages {
         Ok(TreeMessages {
             alloc: self.alloc,
             root: self.root.copy()?,
-            count: self.count,
+            totals: self.totals,
         })
     }
 
@@ -212,7 +258,21 @@ impl TreeMessages {
     pub(crate) fn len(&self) -> u32
         ensures { result ≡ length self.now }
     {
-        self.count
+        self.totals.count
+    }
+
+    /// How many bytes the messages count.
+    pub(crate) fn bytes(&self) -> u64
+        ensures { result ≡ retained_bytes self.now }
+    {
+        self.totals.bytes
+    }
+
+    /// How many of them are those of this topic: 0 if it holds no message.
+    pub(crate) fn bytes_at(&self, topic: &TopicName) -> u64
+        ensures { result ≡ bytes_at topic.now self.now }
+    {
+        bytes_if_found(self.root.find(topic.as_bytes()))
     }
 
     /// At most `limit` topics hold a message after the operation.
@@ -220,7 +280,7 @@ impl TreeMessages {
         requires { length self.now ≤ limit }
         ensures { result ≡ nat_le (length (after self.now operation.now)) limit }
     {
-        has_space(&self.root, self.count, limit, operation)
+        has_space(&self.root, self.totals, limit, operation)
     }
 
     /// Sets or clears one topic, or removes what is expired, which becomes what remains. If memory is refused, nothing changes.
@@ -234,15 +294,15 @@ impl TreeMessages {
         ensures done { OnOk result (self.new ≡ after self.old operation) }
         ensures refused { OnErr result (self.new ≡ self.old) }
     {
-        let count = change(
+        let totals = change(
             &mut self.root,
             remains,
             self.alloc,
-            self.count,
+            self.totals,
             operation,
             path,
         )?;
-        self.count = count;
+        self.totals = totals;
         Ok(())
     }
 
@@ -271,7 +331,13 @@ impl Messages for TreeMessages {
     ghost retained = { λ m. m };
 
     fn answer(&self, filter: &TopicFilter, now: u64) -> Result<Vec<Found>, AllocError> {
-        match answers(self.alloc, &self.root, filter, now, self.count as usize)? {
+        match answers(
+            self.alloc,
+            &self.root,
+            filter,
+            now,
+            self.totals.count as usize,
+        )? {
             Some(found) => Ok(found),
             // Never: no answer has more messages than are retained.
             None => Ok(Vec::new(self.alloc)),

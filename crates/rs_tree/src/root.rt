@@ -1,15 +1,17 @@
 //! The whole tree, which a catalogue and its copies share until one of them changes it.
 
-ghost use Rattle.std.specs.Prelude.{◌≡◌, ◌+◌, ◌++◌, ◌≤◌, [], length, IfErr, IfOk, OnErr, OnOk};
+ghost use Rattle.std.specs.Prelude.{◌≡◌, ◌+◌, ◌++◌, ◌<◌, ◌≤◌, ◌^◌, [], length, IfErr, IfOk, OnErr, OnOk};
 ghost use Rattle.std.specs.BTreeMap.{insert_entry, is_at};
 ghost use Rattle.std.specs.List.{filter};
 ghost use Rattle.std.specs.Map.{remove_entry};
+ghost use Rattle.std.specs.Option.{option_copied};
 ghost use Rattle.rs_topic.specs.Order.{path_cmp};
 ghost use Rattle.rs_tree_branch.specs.Chosen.{chosen_at_root};
 ghost use Rattle.rs_tree_bucket.specs.Expiring.{earliest};
 ghost use Rattle.rs_topic.specs.Rests.{levels_from};
-ghost use Rattle.rs_tree_bucket.specs.Spots.{is_there};
+ghost use Rattle.rs_tree_bucket.specs.Spots.{found_at, is_there};
 ghost use Rattle.rs_tree_bucket.specs.Sweeping.{is_expired_spot, spot_stays};
+ghost use Rattle.rs_tree_bucket.specs.Weights.{weight};
 ghost use Rattle.rs_store.specs.declared.limit.TheConstants.{MAX_TOPICS};
 ghost use Rattle.rs_store.specs.Room.{IsStop};
 
@@ -65,24 +67,24 @@ impl Root {
         }
     }
 
-    /// Sets the message of its topic, and returns whether there was one. If memory is refused, nothing changes.
+    /// Sets the message of its topic, and returns the one that it replaces. If memory is refused, nothing changes.
     pub fn set(
         &mut self,
         alloc: Global,
         found: Found,
         path: &mut IndexPath,
-    ) -> Result<bool, AllocError>
+    ) -> Result<Option<Found>, AllocError>
         ensures done { OnOk result (self.new ≡ insert_entry path_cmp self.old (levels_from 0 found.topic) found) }
-        ensures existed { IfOk result (λ was. was ≡ is_there (levels_from 0 found.topic) self.old) }
+        ensures replaced { IfOk result (λ old. old ≡ found_at (levels_from 0 found.topic) self.old) }
         ensures refused { OnErr result (self.new ≡ self.old) }
     {
-        let was = Branch::set_in(&mut self.branch, alloc, found, 0, path)?;
+        let old = Branch::set_in(&mut self.branch, alloc, found, 0, path)?;
         // A message that takes another one's place adds no child.
-        if was {
-            return Ok(true);
+        if old.is_some() {
+            return Ok(old);
         }
         self.fold(alloc);
-        Ok(false)
+        Ok(old)
     }
 
     /// Removes the message of a topic, and returns whether there was one. If memory is refused, nothing changes.
@@ -122,11 +124,11 @@ impl Root {
         Ok(())
     }
 
-    /// There is a message of this topic.
-    pub fn holds(&self, topic: &[u8]) -> bool
-        ensures { result ≡ is_there (levels_from 0 topic.now) self.now }
+    /// The message of this topic, if there is one.
+    pub fn find(&self, topic: &[u8]) -> Option<&Found>
+        ensures { option_copied result ≡ found_at (levels_from 0 topic.now) self.now }
     {
-        self.branch.holds(topic, 0)
+        self.branch.find(topic, 0)
     }
 
     /// Appends copies of the messages that a filter matches and that are not expired.
@@ -152,6 +154,13 @@ impl Root {
         ensures { count.old + length self.now ≤ MAX_TOPICS → count.new ≡ count.old + length (filter (is_expired_spot now) self.now) }
     {
         self.branch.count_expired(now, count);
+    }
+
+    /// Adds how many bytes the messages count.
+    pub fn add_bytes(&self, bytes: &mut u64)
+        ensures { bytes.old + weight self.now < 2 ^ 64 → bytes.new ≡ bytes.old + weight self.now }
+    {
+        self.branch.add_bytes(bytes);
     }
 
     /// A bound, or the first moment at which one of the messages is expired if that is earlier.

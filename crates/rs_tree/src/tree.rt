@@ -6,7 +6,7 @@ ghost use Rattle.rs_store.specs.Contents.{Accepts, followed};
 use crate::messages::TreeMessages;
 use rs_message::{Entry, Found};
 use rs_store::{Catalogue, Ledger, Messages, Refusal, TopicLimit};
-use rs_topic::TopicFilter;
+use rs_topic::{TopicFilter, TopicName};
 use rs_tree_branch::{IndexPath, Remains};
 use std::alloc::{AllocError, Global};
 use std::marker::Model;
@@ -21,10 +21,11 @@ use std::marker::Model;
 ///
 /// `accepts` and `apply` look up one topic, level by level, and then among the few messages that lie together. `answer` visits only
 /// the branches that the filter can match: one for a level without a wildcard, each for a `+`, all below for a `#`. It builds no
-/// list of levels and copies no byte of a topic, text or payload. `version`, `last_serial` and `count` take constant time.
+/// list of levels and copies no byte of a topic, text or payload. `version`, `last_serial`, `count` and `bytes` take constant
+/// time, and `bytes_at` looks up one topic.
 ///
-/// A Sweep makes what it changes anew, and shares the rest. It visits each message once, as `expired` and `earliest` do. The entries
-/// after it drop what it took out, each a few nodes.
+/// A Sweep makes what it changes anew, and shares the rest. It visits each message, and each that stays once more to count its bytes;
+/// `expired` and `earliest` visit each once. The entries after it drop what it took out, each a few nodes.
 #[derive(Drop)]
 pub struct TreeCatalogue {
     alloc: Global,
@@ -150,6 +151,14 @@ impl Catalogue for TreeCatalogue {
 
     fn count(&self) -> u32 {
         self.messages.len()
+    }
+
+    fn bytes(&self) -> u64 {
+        self.messages.bytes()
+    }
+
+    fn bytes_at(&self, topic: &TopicName) -> u64 {
+        self.messages.bytes_at(topic)
     }
 
     fn expired_count(&self, now: u64) -> u32 {

@@ -1,5 +1,5 @@
 -- Where a path belongs among the children of a branch.
-use Rattle.rs_tree_branch.proofs.Under.{there_one, level_cmp}
+use Rattle.rs_tree_branch.proofs.Under.{found_one, level_cmp}
 use Rattle.rs_tree_bucket.proofs.Spots.{Spots, Path}
 use Rattle.std.proofs.Common.{◌≡◌, ◌≢◌, ℕ, zero, suc, ◌+◌, ◌<◌, ◌≤◌, Bool, true, false, List, [], ◌∷◌, ◌++◌, length, get_or, take, drop, refl, sym, ap, subst, ◌∙◌, arith, append_assoc, add-one, Option, Some, None, is_some}
 use Rattle.std.specs.declared.cmp.Ordering.{Ordering}
@@ -9,7 +9,7 @@ use Rattle.std.proofs.lemmas.Map.Lookups.{exact_bytes}
 use Rattle.rs_message.specs.declared.found.Found.{Found}
 use Rattle.rs_topic.specs.Order.{path_cmp}
 use Rattle.rs_topic.specs.TopicOrder.{exact_paths, path_total}
-use Rattle.rs_tree_bucket.specs.Spots.{IsFull, is_there, under}
+use Rattle.rs_tree_bucket.specs.Spots.{IsFull, found_at, under}
 use Rattle.rs_tree_branch.specs.Spots.{own}
 use Rattle.rs_tree_branch.specs.Chunks.{IsBehind, IsChunk, IsEdge, IsFrom, IsGap, IsIn, IsNotBefore, IsPreceding, IsUpTo, Leads, LeadsAs, Passes, Takes, TakesAs, depth, parts}
 use Rattle.rs_tree_branch.specs.Values.{ChildValue}
@@ -192,25 +192,25 @@ gap_behind q p (c ∷ cs) (suc i) r e =
 
 -- ---- a look among what stands before, what may be the spot, and what stands behind
 
-there_none : (p : Path) (r : Spots) → Precedes p r → is_there p r ≡ false
-there_none p [] a = refl
-there_none p (s ∷ r) a = rw a.0 (there_none p r a.1)
+found_none : (p : Path) (r : Spots) → Precedes p r → found_at p r ≡ None
+found_none p [] a = refl
+found_none p (s ∷ r) a = rw a.0 (found_none p r a.1)
 
-there_front : (p : Path) (w r : Spots) → Precedes p r → is_there p (w ++ r) ≡ is_there p w
-there_front p [] r a = there_none p r a
-there_front p (s ∷ w) r a = at (path_cmp p s.0) refl (there_front p w r a)
+found_front : (p : Path) (w r : Spots) → Precedes p r → found_at p (w ++ r) ≡ found_at p w
+found_front p [] r a = found_none p r a
+found_front p (s ∷ w) r a = at (path_cmp p s.0) refl (found_front p w r a)
   where
-    at : (o : Ordering) → path_cmp p s.0 ≡ o → is_there p (w ++ r) ≡ is_there p w → is_there p (s ∷ w ++ r) ≡ is_there p (s ∷ w)
+    at : (o : Ordering) → path_cmp p s.0 ≡ o → found_at p (w ++ r) ≡ found_at p w → found_at p (s ∷ w ++ r) ≡ found_at p (s ∷ w)
     at Less is more = rw is more
     at Equal is more = rw is refl
     at Greater is more = rw is more
 
-there_rear : (p : Path) (l w : Spots) → IsBehind p l → is_there p (l ++ w) ≡ is_there p w
-there_rear p [] w b = refl
-there_rear p (s ∷ l) w b = rw b.0 (there_rear p l w b.1)
+found_rear : (p : Path) (l w : Spots) → IsBehind p l → found_at p (l ++ w) ≡ found_at p w
+found_rear p [] w b = refl
+found_rear p (s ∷ l) w b = rw b.0 (found_rear p l w b.1)
 
-pub there_mid : (p : Path) (l w r : Spots) → IsBehind p l → Precedes p r → is_there p (l ++ (w ++ r)) ≡ is_there p w
-there_mid p l w r b a = there_rear p l (w ++ r) b ∙ there_front p w r a
+pub found_mid : (p : Path) (l w r : Spots) → IsBehind p l → Precedes p r → found_at p (l ++ (w ++ r)) ≡ found_at p w
+found_mid p l w r b a = found_rear p l (w ++ r) b ∙ found_front p w r a
 
 -- ---- the parts around an index
 
@@ -261,27 +261,27 @@ module _ (retained : Option Found) (cs : List ChildValue) (r : IsChunk cs) (q : 
   pub gap_rear : (i : ℕ) → IsGap q cs i → Precedes (q ∷ p) (parts (drop i cs))
   gap_rear i e = rear_preceding (Passes q) q p cs i r e
 
-  pub there_in : (i : ℕ) (d : ChildValue) → i < length cs → IsIn q cs i → is_there (q ∷ p) (own retained ++ parts cs) ≡ is_there (q ∷ p) (get_or cs i d).spots
-  there_in i d small e = rw (split_at retained cs i d small) (there_mid (q ∷ p) (own retained ++ parts (take i cs)) (get_or cs i d).spots (parts (drop (suc i) cs)) (in_front i e) (in_rear i e))
+  pub found_in : (i : ℕ) (d : ChildValue) → i < length cs → IsIn q cs i → found_at (q ∷ p) (own retained ++ parts cs) ≡ found_at (q ∷ p) (get_or cs i d).spots
+  found_in i d small e = rw (split_at retained cs i d small) (found_mid (q ∷ p) (own retained ++ parts (take i cs)) (get_or cs i d).spots (parts (drop (suc i) cs)) (in_front i e) (in_rear i e))
 
-  pub there_child : (i : ℕ) (c : ChildValue) → i < length cs → IsIn q cs i → c ≡ get_or cs i c → is_there (q ∷ p) c.spots ≡ is_there (q ∷ p) (own retained ++ parts cs)
-  there_child i c small e is = ap (λ (w : ChildValue). is_there (q ∷ p) w.spots) is ∙ sym (there_in i c small e)
+  pub found_child : (i : ℕ) (c : ChildValue) → i < length cs → IsIn q cs i → c ≡ get_or cs i c → found_at (q ∷ p) c.spots ≡ found_at (q ∷ p) (own retained ++ parts cs)
+  found_child i c small e is = ap (λ (w : ChildValue). found_at (q ∷ p) w.spots) is ∙ sym (found_in i c small e)
 
   pub leads_child : (i : ℕ) (c : ChildValue) → IsIn q cs i → c ≡ get_or cs i c → Leads c (q ∷ p) p
   leads_child i c e is = takes_leads c.is_chunk c.level q p (let P : ChildValue → Type 0 = λ w. Takes q w in subst P (sym is) (edge_at (Takes q) q cs i c e))
 
-  pub there_gap : (i : ℕ) → IsGap q cs i → is_there (q ∷ p) (own retained ++ parts cs) ≡ false
-  there_gap i e = rw (split_gap retained cs i) (there_rear (q ∷ p) (own retained ++ parts (take i cs)) (parts (drop i cs)) (gap_front i e) ∙ there_none (q ∷ p) (parts (drop i cs)) (gap_rear i e))
+  pub found_gap : (i : ℕ) → IsGap q cs i → found_at (q ∷ p) (own retained ++ parts cs) ≡ None
+  found_gap i e = rw (split_gap retained cs i) (found_rear (q ∷ p) (own retained ++ parts (take i cs)) (parts (drop i cs)) (gap_front i e) ∙ found_none (q ∷ p) (parts (drop i cs)) (gap_rear i e))
 
 -- at the spot itself is only its own message
-pub there_own : (retained : Option Found) (cs : List ChildValue) → IsChunk cs → is_there [] (own retained ++ parts cs) ≡ is_some retained
-there_own retained cs r = there_front [] (own retained) (parts cs) (preceding_all [] cs r (first cs)) ∙ alone retained
+pub found_own : (retained : Option Found) (cs : List ChildValue) → IsChunk cs → found_at [] (own retained ++ parts cs) ≡ retained
+found_own retained cs r = found_front [] (own retained) (parts cs) (preceding_all [] cs r (first cs)) ∙ alone retained
   where
     first : (cs : List ChildValue) → BeforeAll [] cs
     first [] = tt
     first (c ∷ cs) = refl
 
-    alone : (retained : Option Found) → is_there [] (own retained) ≡ is_some retained
+    alone : (retained : Option Found) → found_at [] (own retained) ≡ retained
     alone None = refl
     alone (Some f) = refl
 
@@ -393,5 +393,5 @@ named_in q cs i c r small is t e =
 
 -- ---- one child, below its level
 
-pub there_under : (k : List ℕ) (p path : Path) (w : Spots) → path ≡ k ∷ p → is_there p w ≡ is_there path (under k w)
-there_under k p path w is = rw is (sym (there_one k p w))
+pub found_under : (k : List ℕ) (p path : Path) (w : Spots) → path ≡ k ∷ p → found_at p w ≡ found_at path (under k w)
+found_under k p path w is = rw is (sym (found_one k p w))

@@ -15,7 +15,7 @@ use Rattle.rs_topic.specs.Order.{path_cmp}
 use Rattle.rs_tree_bucket.specs.Chains.{behind, under_all}
 use Rattle.rs_tree_bucket.specs.Spots.{IsFull, is_there, under}
 use Rattle.rs_tree_branch.specs.Spots.{own}
-use Rattle.rs_tree_branch.proofs.Stems.{full_below, not_behind, removed, there_behind}
+use Rattle.rs_tree_branch.proofs.Stems.{found_behind, full_below, none_behind, removed}
 use Rattle.rs_tree_bucket.specs.Clearing.{Clears, ClearsAs}
 use Rattle.rs_tree_bucket.specs.declared.cleared.Cleared.{Cleared}
 use Rattle.rs_tree_bucket.specs.declared.cleared.Cleared.TheVariants.{Missing, Left, Last}
@@ -23,16 +23,16 @@ use Rattle.rs_tree_branch.specs.Chunks.{IsBefore, IsBehind, IsChunk, IsFrom, IsI
 use Rattle.rs_tree_branch.specs.Values.{ChildValue}
 use Rattle.rs_tree_branch.proofs.Dividing.{full_parts, level_rises, up_to_wider}
 use Rattle.rs_tree_branch.proofs.Growing.{chunk_at, chunk_set, from_at, put_whole, same_parts}
-use Rattle.rs_tree_branch.proofs.Chunks.{Precedes, around, in_front, in_rear, split_at, there_child, there_gap, there_own}
+use Rattle.rs_tree_branch.proofs.Chunks.{Precedes, around, found_child, found_own, in_front, in_rear, split_at}
 use Rattle.rs_tree_bucket.proofs.Buckets.{none_below}
 use Rattle.rs_tree_bucket.proofs.Spots.{Spots, Path}
 
 -- ---- below a chain
 
 clears_as_chain : (ks p r : Path) (b : Cleared) (w w' : Spots) → behind ks p ≡ Some r → ClearsAs b w w' r → ClearsAs b (under_all ks w) (under_all ks w') p
-clears_as_chain ks p r Missing w w' h c = (there_behind ks p r w h ∙ c.0, ap (under_all ks) c.1)
-clears_as_chain ks p r Left w w' h c = (there_behind ks p r w h ∙ c.0, removed ks p r w w' h c.1, full_below ks w' c.2)
-clears_as_chain ks p r Last w w' h c = (there_behind ks p r w h ∙ c.0, sym (removed ks p r w (remove_entry (is_at (path_cmp r)) w) h refl) ∙ (ap (under_all ks) c.1 ∙ none_below ks), ap (under_all ks) c.2)
+clears_as_chain ks p r Missing w w' h c = (ap is_some (found_behind ks p r w h) ∙ c.0, ap (under_all ks) c.1)
+clears_as_chain ks p r Left w w' h c = (ap is_some (found_behind ks p r w h) ∙ c.0, removed ks p r w w' h c.1, full_below ks w' c.2)
+clears_as_chain ks p r Last w w' h c = (ap is_some (found_behind ks p r w h) ∙ c.0, sym (removed ks p r w (remove_entry (is_at (path_cmp r)) w) h refl) ∙ (ap (under_all ks) c.1 ∙ none_below ks), ap (under_all ks) c.2)
 
 pub clears_chain : {E : Type 0} (ks p r : Path) (b : Result Cleared E) (w w' : Spots) → behind ks p ≡ Some r → Clears b w w' r → Clears b (under_all ks w) (under_all ks w') p
 clears_chain ks p r (Ok b) w w' h c = clears_as_chain ks p r b w w' h c
@@ -42,12 +42,12 @@ pub clears_level : {E : Type 0} (k : List ℕ) (p path : Path) (b : Result Clear
 clears_level k p path b w w' is c = clears_chain (k ∷ []) path p b w w' (rw (is, (bytes_decides k k).1 refl) refl) c
 
 pub clears_none : (ks p : Path) (w : Spots) → behind ks p ≡ None → ClearsAs Missing (under_all ks w) (under_all ks w) p
-clears_none ks p w h = (not_behind ks p w h, refl)
+clears_none ks p w h = (ap is_some (none_behind ks p w h), refl)
 
 -- ---- the message of the spot itself
 
 pub retained_missing : (retained : Option Found) (cs : List ChildValue) → IsChunk cs → is_some retained ≡ false → is_there [] (own retained ++ parts cs) ≡ false
-retained_missing retained cs r none = there_own retained cs r ∙ none
+retained_missing retained cs r none = ap is_some (found_own retained cs r) ∙ none
 
 pub retained_last : (retained : Option Found) (cs : List ChildValue) → is_some retained ≡ true → length cs ≡ 0 → ClearsAs Last (own retained ++ parts cs) (own retained ++ parts cs) []
 retained_last None cs some none = absurd (cc (some))
@@ -167,7 +167,7 @@ module _ (retained : Option Found) (cs : List ChildValue) (r : IsChunk cs) (q : 
       ∙ ap (λ (w : ChildValue). (own retained ++ parts (take i cs)) ++ (remove_entry (is_at (path_cmp (q ∷ p))) w.spots ++ parts (drop (suc i) cs))) (sym is))
 
   there : is_there (q ∷ p) c.spots ≡ is_there (q ∷ p) (own retained ++ parts cs)
-  there = there_child retained cs r q p i c small e is
+  there = ap is_some (found_child retained cs r q p i c small e is)
 
   pub clears_missing : ClearsAs Missing c.spots c'.spots (q ∷ p) → ClearsAs Missing (own retained ++ parts cs) (own retained ++ parts (slice_set cs i c')) (q ∷ p)
   clears_missing h = (sym there ∙ h.0, same_parts retained cs i c c' small is h.1)

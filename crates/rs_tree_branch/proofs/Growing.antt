@@ -8,14 +8,14 @@ use Rattle.std.specs.declared.cmp.Ordering.{Ordering}
 use Rattle.std.specs.declared.cmp.Ordering.TheVariants.{Less, Equal, Greater}
 use Rattle.rs_message.specs.declared.found.Found.{Found}
 use Rattle.rs_topic.specs.Order.{path_cmp}
-use Rattle.rs_tree_bucket.specs.Spots.{IsFull, is_there, under}
+use Rattle.rs_tree_bucket.specs.Spots.{IsFull, found_at, under}
 use Rattle.rs_tree_branch.specs.Spots.{own}
 use Rattle.rs_tree_branch.proofs.Under.{was_by, full_insert, level_cmp}
 use Rattle.rs_tree_bucket.proofs.Spots.{Spots, Path}
 use Rattle.rs_tree_branch.proofs.Stems.{insert_all}
 use Rattle.rs_tree_branch.specs.Chunks.{IsBefore, IsBehind, IsChunk, IsEdge, IsFrom, IsGap, IsIn, IsPreceding, IsUpTo, Takes, parts}
 use Rattle.rs_tree_branch.specs.Values.{ChildValue}
-use Rattle.rs_tree_branch.proofs.Chunks.{Precedes, BeforeAll, preceding_all, around, behind_up_to, edge_at, gap_front, gap_rear, in_front, in_rear, level_less, split_at, split_gap, takes_reached, there_under}
+use Rattle.rs_tree_branch.proofs.Chunks.{Precedes, BeforeAll, preceding_all, around, behind_up_to, edge_at, gap_front, gap_rear, in_front, in_rear, level_less, split_at, split_gap, takes_reached, found_under}
 
 -- ---- an insertion among what stands before, what may be the spot, and what stands behind
 
@@ -183,5 +183,5 @@ module _ (k : List ℕ) (p path : Path) (f : Found) (is : path ≡ k ∷ p) wher
   pub grown_under : (w w' : Spots) → w' ≡ insert_entry path_cmp w p f → under k w' ≡ insert_entry path_cmp (under k w) path f
   grown_under w w' put = rw (is, put) (sym (insert_all (k ∷ []) p f w))
 
-  pub was_under : {E : Type 0} (o : Result Bool E) (w : Spots) → IfOk o (λ was. was ≡ is_there p w) → IfOk o (λ was. was ≡ is_there path (under k w))
-  was_under o w t = was_by o (is_there p w) (is_there path (under k w)) t (there_under k p path w is)
+  pub was_under : {E : Type 0} (o : Result (Option Found) E) (w : Spots) → IfOk o (λ old. old ≡ found_at p w) → IfOk o (λ old. old ≡ found_at path (under k w))
+  was_under o w t = was_by o (found_at p w) (found_at path (under k w)) t (found_under k p path w is)

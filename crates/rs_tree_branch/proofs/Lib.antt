@@ -14,3 +14,4 @@ pub mod Parting
 pub mod Sent
 pub mod Stems
 pub mod Under
+pub mod Weighing

@@ -1,7 +1,7 @@
 -- Messages below a chain of levels, level by level.
 use Rattle.rs_tree_bucket.proofs.Chains.{behind_is}
 use Rattle.rs_tree_bucket.proofs.Spots.{Path, Spots}
-use Rattle.rs_tree_branch.proofs.Under.{insert_one, remove_one, there_one, level_cmp, other_child}
+use Rattle.rs_tree_branch.proofs.Under.{insert_one, remove_one, found_one, level_cmp, other_child}
 use Rattle.rs_tree_branch.proofs.Chosen.{goes, stops, hash_goes}
 use Rattle.std.proofs.Common.{◌≡◌, ℕ, Bool, true, false, ◌||◌, List, [], ◌∷◌, ◌++◌, refl, sym, ap, ◌∙◌, Some, None}
 use Rattle.std.proofs.lemmas.List.{append-nil}
@@ -19,7 +19,7 @@ use Rattle.rs_topic.specs.Order.{path_cmp}
 use Rattle.rs_topic.specs.Matching.{fits}
 use Rattle.rs_tree_bucket.specs.Chains.{under_all, behind, past}
 use Rattle.rs_tree_bucket.specs.Chosen.{chosen}
-use Rattle.rs_tree_bucket.specs.Spots.{under, is_there, IsFull}
+use Rattle.rs_tree_bucket.specs.Spots.{under, found_at, IsFull}
 use Rattle.rs_topic.proofs.Rests.{fits_on, fits_not}
 
 -- ---- whether there is anything
@@ -67,27 +67,27 @@ removed ks p r w w' h is = rw (is, behind_is ks p r h) (sym (remove_all ks r w))
 
 -- ---- a look-up
 
-pub there_all : (ks p : Path) (w : Spots) → is_there (ks ++ p) (under_all ks w) ≡ is_there p w
-there_all [] p w = refl
-there_all (k ∷ ks) p w = there_one k (ks ++ p) (under_all ks w) ∙ there_all ks p w
+pub found_all : (ks p : Path) (w : Spots) → found_at (ks ++ p) (under_all ks w) ≡ found_at p w
+found_all [] p w = refl
+found_all (k ∷ ks) p w = found_one k (ks ++ p) (under_all ks w) ∙ found_all ks p w
 
-no_end : (k : List ℕ) (w : Spots) → is_there [] (under k w) ≡ false
+no_end : (k : List ℕ) (w : Spots) → found_at [] (under k w) ≡ None
 no_end k [] = refl
 no_end k (s ∷ ss) = no_end k ss
 
-pub there_behind : (ks p r : Path) (w : Spots) → behind ks p ≡ Some r → is_there p (under_all ks w) ≡ is_there r w
-there_behind ks p r w h = rw (behind_is ks p r h) (there_all ks r w)
+pub found_behind : (ks p r : Path) (w : Spots) → behind ks p ≡ Some r → found_at p (under_all ks w) ≡ found_at r w
+found_behind ks p r w h = rw (behind_is ks p r h) (found_all ks r w)
 
-pub not_behind : (ks p : Path) (w : Spots) → behind ks p ≡ None → is_there p (under_all ks w) ≡ false
-not_behind [] p w h = absurd (cc (h))
-not_behind (k ∷ ks) [] w h = no_end k (under_all ks w)
-not_behind (k ∷ ks) (q ∷ p) w h = at (bytes_eq k q) refl (not_behind ks p w)
+pub none_behind : (ks p : Path) (w : Spots) → behind ks p ≡ None → found_at p (under_all ks w) ≡ None
+none_behind [] p w h = absurd (cc (h))
+none_behind (k ∷ ks) [] w h = no_end k (under_all ks w)
+none_behind (k ∷ ks) (q ∷ p) w h = at (bytes_eq k q) refl (none_behind ks p w)
   where
-    at : (t : Bool) → bytes_eq k q ≡ t → (behind ks p ≡ None → is_there p (under_all ks w) ≡ false) → is_there (q ∷ p) (under k (under_all ks w)) ≡ false
+    at : (t : Bool) → bytes_eq k q ≡ t → (behind ks p ≡ None → found_at p (under_all ks w) ≡ None) → found_at (q ∷ p) (under k (under_all ks w)) ≡ None
     at true is more =
         let same : k ≡ q = (bytes_decides k q).0 is in
-        rw same (there_one q p (under_all ks w) ∙ more (rw is at h))
-    at false is more = ap (is_there (q ∷ p)) (sym (append-nil (under k (under_all ks w)))) ∙ other_child q k p (under_all ks w) [] (other_level k q is)
+        rw same (found_one q p (under_all ks w) ∙ more (rw is at h))
+    at false is more = ap (found_at (q ∷ p)) (sym (append-nil (under k (under_all ks w)))) ∙ other_child q k p (under_all ks w) [] (other_level k q is)
 
 -- ---- an answer
 
@@ -126,8 +126,8 @@ none_past (k ∷ ks) (level ∷ more) now w h = by (fits (level ∷ more) []) re
 pub set_whole : (ks p q : Path) (f : Found) (b b' old : Spots) → under_all ks b ≡ old → p ≡ ks ++ q → b' ≡ insert_entry path_cmp b q f → under_all ks b' ≡ insert_entry path_cmp old p f
 set_whole ks p q f b b' old same is h = rw (h, is, ← same) (sym (insert_all ks q f b))
 
-pub was_whole : (ks p q : Path) (b old : Spots) → under_all ks b ≡ old → p ≡ ks ++ q → is_there q b ≡ is_there p old
-was_whole ks p q b old same is = rw (is, ← same) (sym (there_all ks q b))
+pub found_whole : (ks p q : Path) (b old : Spots) → under_all ks b ≡ old → p ≡ ks ++ q → found_at q b ≡ found_at p old
+found_whole ks p q b old same is = rw (is, ← same) (sym (found_all ks q b))
 
 -- a chain of two parts
 pub joined : (a b : Path) (w : Spots) → under_all (a ++ b) w ≡ under_all a (under_all b w)

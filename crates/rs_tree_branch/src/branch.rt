@@ -15,12 +15,13 @@ mod count;
 mod earliest;
 mod expired;
 mod flat;
-mod holds;
 mod join;
 mod len;
+mod lookup;
 mod remains;
 mod set;
 mod sweep;
+mod weighing;
 
 use crate::index_path::IndexPath;
 pub use remains::Remains;

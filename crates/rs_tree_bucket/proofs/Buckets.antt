@@ -1,5 +1,5 @@
 -- The messages of a bucket, one after the other.
-use Rattle.std.proofs.Common.{◌≡◌, ℕ, zero, suc, ◌+◌, ◌<◌, ◌≤◌, ◌==◌, Bool, true, false, List, [], ◌∷◌, ◌++◌, length, get_or, drop, refl, sym, ap, subst, ◌∙◌, arith, append_assoc}
+use Rattle.std.proofs.Common.{◌≡◌, ℕ, zero, suc, ◌+◌, ◌<◌, ◌≤◌, ◌==◌, Bool, true, false, List, [], ◌∷◌, ◌++◌, length, get_or, drop, refl, sym, ap, subst, ◌∙◌, arith, append_assoc, Some, None, is_some}
 use Rattle.std.proofs.lemmas.List.{append-nil, drop_all, drop_more}
 use Rattle.std.proofs.lemmas.Bool.Decides.{nat_tests}
 use Rattle.std.specs.Prelude.{slice_set}
@@ -22,7 +22,7 @@ use Rattle.rs_tree_bucket.specs.Chosen.{chosen}
 use Rattle.rs_store.specs.Room.{IsStop}
 use Rattle.rs_store.specs.declared.answer.Stop.{Stop}
 use Rattle.rs_topic.specs.Rests.{levels_from}
-use Rattle.rs_tree_bucket.specs.Spots.{is_nothing, is_there, spot_of, under}
+use Rattle.rs_tree_bucket.specs.Spots.{found_at, is_nothing, is_there, spot_of, under}
 use Rattle.rs_store.proofs.Entries.{sorted_cons, sorted_none, sorted_insert, sorted_remove}
 use Rattle.rs_tree_bucket.proofs.Spots.{Spots, Path}
 use Rattle.rs_tree_bucket.proofs.Chosen.{chosen-append}
@@ -94,16 +94,20 @@ set_here f at [] i h = absurd h
 set_here f at (l ∷ ls) zero h = rw h (ap (λ (p : Path). let s : Path × Found = (p, f) in s ∷ spots_in ls) (exact_paths (levels_from at f.topic) (path_of l) h))
 set_here f at (l ∷ ls) (suc i) h = rw h.0 (ap (λ (w : Spots). spot_of l.at l.found ∷ w) (set_here f at ls i h.1))
 
-pub there_here : (p : Path) (ls : List Leaf) (i : ℕ) → IsHere p ls i → is_there p (spots_in ls) ≡ true
-there_here p [] i h = absurd h
-there_here p (l ∷ ls) zero h = rw h refl
-there_here p (l ∷ ls) (suc i) h = rw h.0 (there_here p ls i h.1)
+found_here : (p : Path) (ls : List Leaf) (i : ℕ) (d : Leaf) → IsHere p ls i → found_at p (spots_in ls) ≡ Some (get_or ls i d).found
+found_here p [] i d h = absurd h
+found_here p (l ∷ ls) zero d h = rw h refl
+found_here p (l ∷ ls) (suc i) d h = rw h.0 (found_here p ls i d h.1)
 
-none_after : (p q : Path) (w : Spots) → path_cmp p q ≡ Less → AllByRecursion (λ y. path_cmp q y ≡ Less) (keys_of w) → is_there p w ≡ false
+there_here : (p : Path) (ls : List Leaf) (i : ℕ) → IsHere p ls i → is_there p (spots_in ls) ≡ true
+there_here p [] i h = absurd h
+there_here p (l ∷ ls) i h = ap is_some (found_here p (l ∷ ls) i l h)
+
+none_after : (p q : Path) (w : Spots) → path_cmp p q ≡ Less → AllByRecursion (λ y. path_cmp q y ≡ Less) (keys_of w) → found_at p w ≡ None
 none_after p q [] h a = refl
 none_after p q (s ∷ ss) h a = rw (path_total.trans p q s.0 h a.0) (none_after p q ss h a.1)
 
-pub absent_gap : (p : Path) (ls : List Leaf) (i : ℕ) → Sorted (spots_in ls) → IsGap p ls i → is_there p (spots_in ls) ≡ false
+pub absent_gap : (p : Path) (ls : List Leaf) (i : ℕ) → Sorted (spots_in ls) → IsGap p ls i → found_at p (spots_in ls) ≡ None
 absent_gap p [] zero s g = refl
 absent_gap p [] (suc i) s g = absurd g
 absent_gap p (l ∷ ls) zero s g = rw g (none_after p (path_of l) (spots_in ls) g (sorted_head path_cmp (path_of l) (keys_of (spots_in ls)) s))
@@ -117,7 +121,7 @@ gone_here p (l ∷ ls) zero h = rw h refl
 gone_here p (l ∷ ls) (suc i) h = rw h.0 (ap (λ (w : Spots). spot_of l.at l.found ∷ w) (gone_here p ls i h.1))
 
 pub unchanged_gap : (p : Path) (ls : List Leaf) (i : ℕ) → Sorted (spots_in ls) → IsGap p ls i → remove_entry (is_at (path_cmp p)) (spots_in ls) ≡ spots_in ls
-unchanged_gap p ls i s g = remove_absent (is_at (path_cmp p)) (spots_in ls) (absent_gap p ls i s g)
+unchanged_gap p ls i s g = remove_absent (is_at (path_cmp p)) (spots_in ls) (ap is_some (absent_gap p ls i s g))
 
 -- ---- that the messages stay in order
 
@@ -208,10 +212,15 @@ pub sorted_empty : (ls : List Leaf) → ls ≡ [] → Sorted (spots_in ls)
 sorted_empty ls h = rw h (sorted_none path_cmp)
 
 module _ (at i : ℕ) (t : List ℕ) (ls items : List Leaf) (same : ls ≡ items) where
+  pub found_is : (view : Spots) (l : Leaf) → spots_in items ≡ view → IsHere (levels_from at t) ls i → l ≡ get_or items i l → Some l.found ≡ found_at (levels_from at t) view
+  found_is view l is here there =
+      let one : found_at (levels_from at t) (spots_in items) ≡ Some (get_or items i l).found = rw same at (found_here (levels_from at t) ls i l here) in
+      rw (← is) (ap (λ (x : Leaf). Some x.found) there ∙ sym one)
+
   pub there_is : (view : Spots) → spots_in items ≡ view → IsHere (levels_from at t) ls i → true ≡ is_there (levels_from at t) view
   there_is view is here = rw (← is, ← same) (sym (there_here (levels_from at t) ls i here))
 
-  pub none_is : (view : Spots) → spots_in items ≡ view → Sorted (spots_in items) → IsGap (levels_from at t) ls i → false ≡ is_there (levels_from at t) view
+  pub none_is : (view : Spots) → spots_in items ≡ view → Sorted (spots_in items) → IsGap (levels_from at t) ls i → None ≡ found_at (levels_from at t) view
   none_is view is s gap =
       let P : List Leaf → Type 0 = λ w. Sorted (spots_in w) in
       rw (← is, ← same) (sym (absent_gap (levels_from at t) ls i (subst P (sym same) s) gap))
@@ -239,6 +248,22 @@ put_one q p f g there = at (path_cmp q p) refl
     at Less is = absurd (cc (rw is at there))
     at Equal is = rw is (ap (λ (r : Path). (r, f) ∷ []) (sym (exact_paths q p is)))
     at Greater is = absurd (cc (rw is at there))
+
+pub one_found : (q p : Path) (g : Found) → is_there q ((p, g) ∷ []) ≡ true → Some g ≡ found_at q ((p, g) ∷ [])
+one_found q p g there = at (path_cmp q p) refl
+  where
+    at : (o : Ordering) → path_cmp q p ≡ o → Some g ≡ found_at q ((p, g) ∷ [])
+    at Less is = absurd (cc (rw is at there))
+    at Equal is = rw is refl
+    at Greater is = absurd (cc (rw is at there))
+
+pub one_missing : (q p : Path) (g : Found) → is_there q ((p, g) ∷ []) ≡ false → None ≡ found_at q ((p, g) ∷ [])
+one_missing q p g none = at (path_cmp q p) refl
+  where
+    at : (o : Ordering) → path_cmp q p ≡ o → None ≡ found_at q ((p, g) ∷ [])
+    at Less is = rw is refl
+    at Equal is = absurd (cc (rw is at none))
+    at Greater is = rw is refl
 
 -- ---- one step of a loop over the leaves, as the goals say it
 

@@ -10,3 +10,4 @@ pub mod Messages
 pub mod Rests
 pub mod Spots
 pub mod Sweeping
+pub mod Weights

@@ -1,5 +1,5 @@
 -- Messages below one spot of the tree, with their paths, in the order of replay. A path is a list of levels.
-use Rattle.std.specs.Prelude.{ℕ, Bool, true, false, List, [], ◌∷◌}
+use Rattle.std.specs.Prelude.{ℕ, Bool, true, false, List, [], ◌∷◌, Option}
 use Rattle.std.specs.Map.{lookup}
 use Rattle.std.specs.BTreeMap.{is_at}
 use Rattle.std.specs.Option.{is_some}
@@ -23,9 +23,13 @@ abbrev pub is_nothing : {X : Type 0} → List X → Bool
 is_nothing [] = true
 is_nothing (x ∷ xs) = false
 
+-- the message at the path, if there is one
+abbrev pub found_at : List (List ℕ) → List Spot → Option Found
+found_at path ss = lookup (is_at (path_cmp path)) ss
+
 -- there is a message at the path
 abbrev pub is_there : List (List ℕ) → List Spot → Bool
-is_there path ss = is_some (lookup (is_at (path_cmp path)) ss)
+is_there path ss = is_some (found_at path ss)
 
 -- there is a message
 abbrev pub IsFull : List Spot → Type 0

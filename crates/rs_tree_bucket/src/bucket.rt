@@ -1,16 +1,18 @@
 //! A few messages below one spot of the tree, which are shared until they are changed.
 
-ghost use Rattle.std.specs.Prelude.{◌≡◌, ◌+◌, ◌++◌, ◌≤◌, [], ◌∷◌, true, length, IfErr, IfOk, IfSome, IsTrue, OnErr, OnOk};
+ghost use Rattle.std.specs.Prelude.{◌≡◌, ◌+◌, ◌++◌, ◌<◌, ◌≤◌, ◌^◌, [], ◌∷◌, true, length, IfErr, IfOk, IfSome, IsTrue, OnErr, OnOk};
 ghost use Rattle.std.specs.Arc.{arc_value};
 ghost use Rattle.std.specs.BTreeMap.{insert_entry};
 ghost use Rattle.std.specs.List.{filter};
+ghost use Rattle.std.specs.Option.{option_copied};
 ghost use Rattle.rs_topic.specs.Order.{path_cmp};
 ghost use Rattle.rs_tree_bucket.specs.Chains.{under_all};
 ghost use Rattle.rs_tree_bucket.specs.Chosen.{chosen};
 ghost use Rattle.rs_tree_bucket.specs.Expiring.{earliest};
 ghost use Rattle.rs_topic.specs.Rests.{levels_from};
-ghost use Rattle.rs_tree_bucket.specs.Spots.{is_there, spot_of, under};
+ghost use Rattle.rs_tree_bucket.specs.Spots.{found_at, is_there, spot_of, under};
 ghost use Rattle.rs_tree_bucket.specs.Sweeping.{is_expired_spot};
+ghost use Rattle.rs_tree_bucket.specs.Weights.{weight};
 ghost use Rattle.rs_store.specs.declared.limit.TheConstants.{MAX_TOPICS};
 ghost use Rattle.rs_tree_bucket.specs.Clearing.{Clears};
 ghost use Rattle.rs_tree_bucket.specs.Rests.{IsSomeRest};
@@ -21,11 +23,12 @@ use crate::cleared::Cleared;
 use crate::leaf::{Leaf, answer_one};
 use crate::leaves::Leaves;
 use rs_message::Found;
-use rs_store::{Answer, Stop, earliest_end, is_expired};
+use rs_store::{Answer, Stop, bytes_of, earliest_end, is_expired};
 use rs_topic::compare_rests;
 use std::alloc::{AllocError, Global};
 use std::cmp::Ordering;
 use std::marker::Model;
+use std::mem;
 use std::sync::Arc;
 
 /// The messages of a bucket.
@@ -173,25 +176,37 @@ impl Bucket {
         }
     }
 
-    /// Sets the message at the rest of its topic, and returns whether there was one. If memory is refused, nothing changes.
-    pub fn set(&mut self, alloc: Global, found: Found, at: usize) -> Result<bool, AllocError>
+    /// Sets the message at the rest of its topic, and returns the one that it replaces. If memory is refused, nothing changes.
+    pub fn set(
+        &mut self,
+        alloc: Global,
+        found: Found,
+        at: usize,
+    ) -> Result<Option<Found>, AllocError>
         ensures done { OnOk result (self.new ≡ insert_entry path_cmp self.old (levels_from at found.topic) found) }
-        ensures existed { IfOk result (λ was. was ≡ is_there (levels_from at found.topic) self.old) }
+        ensures replaced { IfOk result (λ old. old ≡ found_at (levels_from at found.topic) self.old) }
         ensures refused { OnErr result (self.new ≡ self.old) }
     {
-        if self.is_one_at(found.topic().as_bytes(), at) {
-            *self = Bucket::new(alloc, found, at)?;
-            return Ok(true);
-        }
-        if let Messages::More(leaves) = &mut self.messages {
-            if let Some(leaves) = Arc::get_mut(leaves) {
-                return leaves.set(found, at);
+        match &mut self.messages {
+            Messages::One(from, one) => {
+                if is_same(found.topic().as_bytes(), at, one, *from) {
+                    // Both stand at the same rest, wherever it begins in each topic.
+                    if let Ok(start) = u32::try_from(at) {
+                        *from = start;
+                        return Ok(Some(mem::replace(one, found)));
+                    }
+                }
+            }
+            Messages::More(leaves) => {
+                if let Some(leaves) = Arc::get_mut(leaves) {
+                    return leaves.set(found, at);
+                }
             }
         }
         let mut copy = self.to_leaves(alloc)?;
-        let was = copy.set(found, at)?;
+        let old = copy.set(found, at)?;
         *self = Bucket::of_leaves(alloc, copy)?;
-        Ok(was)
+        Ok(old)
     }
 
     /// Removes the message at this rest of a topic, unless it is the only one. If memory is refused, nothing changes.
@@ -298,6 +313,18 @@ impl Bucket {
         }
     }
 
+    /// Adds how many bytes its messages count.
+    pub fn add_bytes(&self, bytes: &mut u64)
+        ensures { bytes.old + weight self.now < 2 ^ 64 → bytes.new ≡ bytes.old + weight self.now }
+    {
+        match &self.messages {
+            Messages::One(_, found) => {
+                *bytes = bytes.saturating_add(bytes_of(found.topic(), found.message()));
+            }
+            Messages::More(leaves) => leaves.add_bytes(bytes),
+        }
+    }
+
     /// A bound, or the first moment at which one of its messages is expired if that is earlier.
     pub fn earliest(&self, bound: u64) -> u64
         ensures { result ≡ earliest bound self.now }
@@ -308,13 +335,18 @@ impl Bucket {
         }
     }
 
-    /// There is a message at this rest of a topic.
-    pub fn holds(&self, topic: &[u8], at: usize) -> bool
-        ensures { result ≡ is_there (levels_from at topic.now) self.now }
+    /// The message at this rest of a topic, if there is one.
+    pub fn find(&self, topic: &[u8], at: usize) -> Option<&Found>
+        ensures { option_copied result ≡ found_at (levels_from at topic.now) self.now }
     {
         match &self.messages {
-            Messages::One(from, found) => is_same(topic, at, found, *from),
-            Messages::More(leaves) => leaves.holds(topic, at),
+            Messages::One(from, found) => {
+                if is_same(topic, at, found, *from) {
+                    return Some(found);
+                }
+                None
+            }
+            Messages::More(leaves) => leaves.find(topic, at),
         }
     }
 

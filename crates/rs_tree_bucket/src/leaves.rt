@@ -1,10 +1,11 @@
 //! A few messages below one spot of the tree, in the order of replay.
 
-ghost use Rattle.std.specs.Prelude.{◌≡◌, ◌+◌, ◌++◌, ◌<◌, ◌≤◌, [], ◌∷◌, false, length, IfErr, IfOk, IfSome, IsTrue, MatchResult, OnErr, OnOk};
+ghost use Rattle.std.specs.Prelude.{◌≡◌, ◌+◌, ◌++◌, ◌<◌, ◌≤◌, ◌^◌, [], ◌∷◌, false, length, IfErr, IfOk, IfSome, IsTrue, MatchResult, OnErr, OnOk};
 ghost use Rattle.std.specs.BTreeMap.{insert_entry, is_at};
 ghost use Rattle.std.specs.List.{filter};
 ghost use Rattle.std.specs.List.Sorted.{IsStrictlySortedBy};
 ghost use Rattle.std.specs.Map.{keys_of, remove_entry};
+ghost use Rattle.std.specs.Option.{option_copied};
 ghost use Rattle.rs_topic.specs.Order.{path_cmp};
 ghost use Rattle.rs_tree_bucket.specs.Buckets.{IsGap, IsHere, spots_in};
 ghost use Rattle.rs_tree_bucket.specs.Chains.{under_all};
@@ -13,18 +14,20 @@ ghost use Rattle.rs_tree_bucket.specs.Expiring.{earliest};
 ghost use Rattle.rs_tree_bucket.specs.Clearing.{ClearsAs};
 ghost use Rattle.rs_store.specs.Room.{IsStop};
 ghost use Rattle.rs_topic.specs.Rests.{levels_from};
-ghost use Rattle.rs_tree_bucket.specs.Spots.{is_nothing, is_there, spot_of, under};
+ghost use Rattle.rs_tree_bucket.specs.Spots.{found_at, is_nothing, is_there, spot_of, under};
 ghost use Rattle.rs_tree_bucket.specs.Sweeping.{is_expired_spot, spot_stays};
+ghost use Rattle.rs_tree_bucket.specs.Weights.{weight};
 ghost use Rattle.rs_store.specs.declared.limit.TheConstants.{MAX_TOPICS};
 
 use crate::chain::shared_levels;
 use crate::cleared::Cleared;
 use crate::leaf::Leaf;
 use rs_message::Found;
-use rs_store::{Answer, Stop, earliest_end, is_expired};
+use rs_store::{Answer, Stop, bytes_of, earliest_end, is_expired};
 use std::alloc::{AllocError, Global};
 use std::cmp::Ordering;
 use std::marker::Model;
+use std::mem;
 
 /// How many messages a bucket takes before a branch is put in its place.
 const MOST: usize = 8;
@@ -133,6 +136,15 @@ fn count_each(leaves: &[Leaf], now: u64, count: &mut u32)
     }
 }
 
+/// Adds how many bytes the messages count.
+fn add_bytes_of_each(leaves: &[Leaf], bytes: &mut u64)
+    ensures { bytes.old + weight (spots_in leaves.now) < 2 ^ 64 → bytes.new ≡ bytes.old + weight (spots_in leaves.now) }
+{
+    for leaf in leaves {
+        *bytes = bytes.saturating_add(bytes_of(leaf.found.topic(), leaf.found.message()));
+    }
+}
+
 /// A bound, or the first moment at which one of the messages is expired if that is earlier.
 fn earliest_of_each(leaves: &[Leaf], bound: u64) -> u64
     ensures { result ≡ earliest bound (spots_in leaves.now) }
@@ -165,7 +177,7 @@ impl Leaves {
         ensures { IfOk result (λ b. b ≡ spot_of at found ∷ []) }
     {
         let mut leaves = Leaves::new(alloc);
-        leaves.set(found, at)?;
+        drop(leaves.set(found, at)?);
         Ok(leaves)
     }
 
@@ -198,21 +210,24 @@ impl Leaves {
         self.leaves.len() > MOST
     }
 
-    /// Sets the message at the rest of its topic, and returns whether there was one. If memory is refused, nothing changes.
-    pub(crate) fn set(&mut self, found: Found, at: usize) -> Result<bool, AllocError>
+    /// Sets the message at the rest of its topic, and returns the one that it replaces. If memory is refused, nothing changes.
+    pub(crate) fn set(&mut self, found: Found, at: usize) -> Result<Option<Found>, AllocError>
         ensures done { OnOk result (self.new ≡ insert_entry path_cmp self.old (levels_from at found.topic) found) }
-        ensures existed { IfOk result (λ was. was ≡ is_there (levels_from at found.topic) self.old) }
+        ensures replaced { IfOk result (λ old. old ≡ found_at (levels_from at found.topic) self.old) }
         ensures refused { OnErr result (self.new ≡ self.old) }
     {
         match index_of(self.leaves.as_slice(), found.topic().as_bytes(), at) {
             Ok(i) => {
-                self.leaves[i] = Leaf { found, at };
-                Ok(true)
+                let Leaf { found: old, at: _ } = mem::replace(
+                    &mut self.leaves[i],
+                    Leaf { found, at },
+                );
+                Ok(Some(old))
             }
             Err(i) => {
                 self.leaves.reserve_exact(1)?;
                 self.leaves.insert(i, Leaf { found, at })?;
-                Ok(false)
+                Ok(None)
             }
         }
     }
@@ -243,7 +258,7 @@ impl Leaves {
     pub(crate) fn clear_more(&mut self, topic: &[u8], at: usize) -> Cleared
         ensures { ClearsAs result self.old self.new (levels_from at topic.now) }
     {
-        if !self.holds(topic, at) {
+        if self.find(topic, at).is_none() {
             return Cleared::Missing;
         }
         if self.len() == 1 {
@@ -258,6 +273,13 @@ impl Leaves {
         ensures { count.old + length self.now ≤ MAX_TOPICS → count.new ≡ count.old + length (filter (is_expired_spot now) self.now) }
     {
         count_each(self.leaves.as_slice(), now, count);
+    }
+
+    /// Adds how many bytes its messages count.
+    pub(crate) fn add_bytes(&self, bytes: &mut u64)
+        ensures { bytes.old + weight self.now < 2 ^ 64 → bytes.new ≡ bytes.old + weight self.now }
+    {
+        add_bytes_of_each(self.leaves.as_slice(), bytes);
     }
 
     /// A bound, or the first moment at which one of its messages is expired if that is earlier.
@@ -275,13 +297,13 @@ impl Leaves {
         self.leaves.shrink_to_fit();
     }
 
-    /// There is a message at this rest of a topic.
-    pub(crate) fn holds(&self, topic: &[u8], at: usize) -> bool
-        ensures { result ≡ is_there (levels_from at topic.now) self.now }
+    /// The message at this rest of a topic, if there is one.
+    pub(crate) fn find(&self, topic: &[u8], at: usize) -> Option<&Found>
+        ensures { option_copied result ≡ found_at (levels_from at topic.now) self.now }
     {
         match index_of(self.leaves.as_slice(), topic, at) {
-            Ok(_) => true,
-            Err(_) => false,
+            Ok(i) => Some(&self.leaves[i].found),
+            Err(_) => None,
         }
     }
 

@@ -1,4 +1,5 @@
 pub mod HistoryRule
+pub mod Memory
 pub mod Origins
 pub mod Prefixes
 pub mod Sent

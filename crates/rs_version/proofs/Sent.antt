@@ -8,7 +8,7 @@ use denote.RattleType.{RattleType}
 use denote.Param.{param, arg}
 use denote.Param.Send.{IsSend, IsSync, AllSend, arg_send, param_send, recorded_send, recorded_sync, sendable, struct_send, struct_sync, view_send}
 use denote.Struct.Declared.{shape}
-use denote.Struct.Field.{bool-field, rows}
+use denote.Struct.Field.{bool-field, rows, u64-field}
 use denote.Struct.Tuple.{Tuple, TupleAt, field_at, parts, type_at}
 use Rattle.core.proofs.option.Option.TheSendSync as option
 use Rattle.core.specs.contracts.option.Option as Option
@@ -66,6 +66,9 @@ copies_send = struct_send (shape Copies.the_type) (
   (option.the_field_send CopyStep.the_row step.the_send, tt),
 )
 
+memory_send : IsSend u64-field.row
+memory_send = search sendable
+
 module _ (N : RattleType) (g : StoreName.Ghosts N.Denot) where
   pub seat_send : IsSend (Seat.the_row N g)
   seat_send = view_send (InSeat.the_row N g) _ _ _ _
@@ -85,7 +88,7 @@ module _ (N : RattleType) (g : StoreName.Ghosts N.Denot) where
               whole.the_send N g,
               (
                 calm.the_send,
-                (option.the_field_send Entry.the_row entry.the_send, (reserve.the_field_send, tt)),
+                (option.the_field_send Entry.the_row entry.the_send, (reserve.the_field_send, (memory_send, tt))),
               ),
             ),
           ),
@@ -105,7 +108,7 @@ pub blank_send : IsSend Blank.the_row
 blank_send = view_send InBlank.the_row _ _ _ _
     (recorded_send InBlank.the_field.row _ _ InBlank.the_type.to_one (struct_send (shape InBlank.the_type) (
       heap.the_field_send,
-      (new_history.the_field_send, (limit.the_send, (count.the_send, (tree_send, (tree_send, tt))))),
+      (new_history.the_field_send, (limit.the_send, (count.the_send, (tree_send, (tree_send, (memory_send, tt)))))),
     )))
 
 all_rows : (Ts : List RattleType) → AllSend Ts → AllSend (rows (parts Ts))

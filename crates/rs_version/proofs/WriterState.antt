@@ -1,11 +1,15 @@
 -- What the writer's invariant says, and that each step of the writer keeps it.
 use Rattle.std.proofs.Common.{◌≡◌, ℕ, ◌<◌, ◌≤◌, List, [], ◌∷◌, ◌++◌, length, fold, ◌⊎◌, Option, Some, None, inl, inr, ⊎_elim, subst, refl, sym, ◌∙◌, ap, arith, length-append}
+use Rattle.std.specs.List.Sorted.{IsStrictlySortedBy}
+use Rattle.std.specs.Map.{keys_of}
 use Rattle.std.proofs.lemmas.List.{append-nil}
 use Rattle.logbook.specs.Pages.{Book}
+use Rattle.rs_topic.specs.Order.{topic_cmp}
 use Rattle.rs_message.specs.declared.entry.Entry.{Entry}
 use Rattle.rs_message.specs.declared.entry.TheConstants.{MAX_LINES}
 use Rattle.rs_store.specs.declared.content.Content.{Content}
-use Rattle.rs_store.specs.Contents.{Accepts, followed}
+use Rattle.rs_store.specs.Bytes.{retained_bytes}
+use Rattle.rs_store.specs.Contents.{Accepts, after, followed}
 use Rattle.rs_store.specs.Expiring.{NoneExpiredBefore}
 use Rattle.rs_store.specs.Adding.{Adds}
 use Rattle.rs_store.specs.History.{IsLegal, cleaned, extended}
@@ -24,19 +28,19 @@ use Rattle.rs_version.specs.Writer.{Declines, IsReady, IsWriting, Precedes, Refu
 use Rattle.rs_version.proofs.VersionRule.{goes_on}
 
 -- if nothing is held, the kept list is the published one
-nothing_held : (history : Book) (limit : ℕ) (copies : Copies) (list : List Entry) (calm : ℕ) (held : Option Entry) → IsWriting history limit copies list calm held → held ≡ None → list ≡ (shown copies).prefix.log
-nothing_held history limit copies list calm held w none = w.list_is ∙ (ap (λ h. (shown copies).prefix.log ++ listed h) none ∙ append-nil (shown copies).prefix.log)
+nothing_held : (history : Book) (limit memory : ℕ) (copies : Copies) (list : List Entry) (calm : ℕ) (held : Option Entry) → IsWriting history limit memory copies list calm held → held ≡ None → list ≡ (shown copies).prefix.log
+nothing_held history limit memory copies list calm held w none = w.list_is ∙ (ap (λ h. (shown copies).prefix.log ++ listed h) none ∙ append-nil (shown copies).prefix.log)
 
 -- and the calm moment is that of the published copy
-pub calm_of : (history : Book) (limit : ℕ) (copies : Copies) (list : List Entry) (calm : ℕ) (held : Option Entry) → IsWriting history limit copies list calm held → held ≡ None → NoneExpiredBefore calm (content_of (shown copies).catalogue)
-calm_of history limit copies list calm held w none =
+pub calm_of : (history : Book) (limit memory : ℕ) (copies : Copies) (list : List Entry) (calm : ℕ) (held : Option Entry) → IsWriting history limit memory copies list calm held → held ≡ None → NoneExpiredBefore calm (content_of (shown copies).catalogue)
+calm_of history limit memory copies list calm held w none =
     let P : Option Entry → Type 0 = λ h. NoneExpiredBefore calm (kept_content (content_of (shown copies).catalogue) h) in
     subst P none w.calm_is
 
 -- so it may be another one of that copy
-pub judged_writing : (history : Book) (limit : ℕ) (copies : Copies) (list : List Entry) (calm calm' : ℕ) (held : Option Entry) → IsWriting history limit copies list calm held → held ≡ None → NoneExpiredBefore calm' (content_of (shown copies).catalogue)
-    → IsWriting history limit copies list calm' held
-judged_writing history limit copies list calm calm' held w none now =
+pub judged_writing : (history : Book) (limit memory : ℕ) (copies : Copies) (list : List Entry) (calm calm' : ℕ) (held : Option Entry) → IsWriting history limit memory copies list calm held → held ≡ None → NoneExpiredBefore calm' (content_of (shown copies).catalogue)
+    → IsWriting history limit memory copies list calm' held
+judged_writing history limit memory copies list calm calm' held w none now =
     let P : Option Entry → Type 0 = λ h. NoneExpiredBefore calm' (kept_content (content_of (shown copies).catalogue) h) in
     record {
       history_is = w.history_is;
@@ -45,13 +49,15 @@ judged_writing history limit copies list calm calm' held w none now =
       list_is = w.list_is;
       calm_is = subst P (sym none) now;
       steps = w.steps;
+      small = w.small;
     }
 
 -- if the publish is refused, all is as before
-pub still_writing : (history : Book) (limit : ℕ) (copies copies' : Copies) (list : List Entry) (calm : ℕ) (held : Option Entry) → IsWriting history limit copies list calm held → shown copies' ≡ shown copies → steps_of copies' ≡ steps_of copies
-    → IsWriting history limit copies' list calm held
-still_writing history limit copies copies' list calm held w same steps =
+pub still_writing : (history : Book) (limit memory : ℕ) (copies copies' : Copies) (list : List Entry) (calm : ℕ) (held : Option Entry) → IsWriting history limit memory copies list calm held → shown copies' ≡ shown copies → steps_of copies' ≡ steps_of copies
+    → IsWriting history limit memory copies' list calm held
+still_writing history limit memory copies copies' list calm held w same steps =
     let C : CatalogueCopy → Type 0 = λ x. NoneExpiredBefore calm (kept_content (content_of x.catalogue) held) in
+    let M : CatalogueCopy → Type 0 = λ x. retained_bytes (kept_content (content_of x.catalogue) held).retained ≤ memory in
     let P : CatalogueCopy → Type 0 = λ x. StepsFor x held (steps_of copies) in
     let Q : List CopyStep → Type 0 = λ ss. StepsFor (shown copies') held ss in
     record {
@@ -61,14 +67,15 @@ still_writing history limit copies copies' list calm held w same steps =
       list_is = w.list_is ∙ ap (λ x. x.prefix.log ++ listed held) (sym same);
       calm_is = subst C (sym same) w.calm_is;
       steps = subst Q (sym steps) (subst P (sym same) w.steps);
+      small = subst M (sym same) w.small;
     }
 
 -- if it is done, nothing is held
-pub all_published : (history : Book) (limit : ℕ) (copies copies' : Copies) (list : List Entry) (calm : ℕ) (held : Option Entry) (e : Entry) → IsWriting history limit copies list calm held → held ≡ Some e
-    → state (shown copies') ≡ fold applied (state (shown copies)) (steps_of copies) → steps_of copies' ≡ [] → IsWriting history limit copies' list calm None
-all_published history limit copies copies' list calm held e writing is goes none =
-    let W : Option Entry → Type 0 = λ h. IsWriting history limit copies list calm h in
-    let w : IsWriting history limit copies list calm (Some e) = subst W is writing in
+pub all_published : (history : Book) (limit memory : ℕ) (copies copies' : Copies) (list : List Entry) (calm : ℕ) (held : Option Entry) (e : Entry) → IsWriting history limit memory copies list calm held → held ≡ Some e
+    → state (shown copies') ≡ fold applied (state (shown copies)) (steps_of copies) → steps_of copies' ≡ [] → IsWriting history limit memory copies' list calm None
+all_published history limit memory copies copies' list calm held e writing is goes none =
+    let W : Option Entry → Type 0 = λ h. IsWriting history limit memory copies list calm h in
+    let w : IsWriting history limit memory copies list calm (Some e) = subst W is writing in
     let x = shown copies in
     let y = shown copies' in
     let next = w.steps in
@@ -86,17 +93,30 @@ all_published history limit copies copies' list calm held e writing is goes none
       list_is = sym log ∙ sym (append-nil y.prefix.log);
       calm_is = subst (NoneExpiredBefore calm) (sym content) w.calm_is;
       steps = none;
+      small = let M : Content → Type 0 = λ z. retained_bytes z.retained ≤ memory in subst M (sym content) w.small;
     }
 
+-- what is retained is in the order of replay, and counts no more than the writer may keep
+pub sorted_of : (history : Book) (limit memory : ℕ) (copies : Copies) (list : List Entry) (calm : ℕ) (held : Option Entry) → IsWriting history limit memory copies list calm held
+    → IsStrictlySortedBy topic_cmp (keys_of (content_of (shown copies).catalogue).retained)
+sorted_of history limit memory copies list calm held w = w.sound.retained.rises
+
+pub small_of : (history : Book) (limit memory : ℕ) (copies : Copies) (list : List Entry) (calm : ℕ) (held : Option Entry) → IsWriting history limit memory copies list calm held → held ≡ None
+    → retained_bytes (content_of (shown copies).catalogue).retained ≤ memory
+small_of history limit memory copies list calm held w none =
+    let P : Option Entry → Type 0 = λ h. retained_bytes (kept_content (content_of (shown copies).catalogue) h).retained ≤ memory in
+    subst P none w.small
+
 -- an entry that was appended is held
-pub appended : (history : Book) (limit : ℕ) (copies copies' : Copies) (list list' : List Entry) (calm calm' : ℕ) (held : Option Entry) (e : Entry) (step : CopyStep) → IsWriting history limit copies list calm held → held ≡ None
+pub appended : (history : Book) (limit memory : ℕ) (copies copies' : Copies) (list list' : List Entry) (calm calm' : ℕ) (held : Option Entry) (e : Entry) (step : CopyStep) → IsWriting history limit memory copies list calm held → held ≡ None
     → IsLegal limit (extended (shown copies).prefix.log e) → e.origin.place ≤ MAX_LINES → 0 < e.origin.serial
     → shown copies' ≡ shown copies → steps_of copies' ≡ step ∷ [] → step.entry ≡ e → step.after.history ≡ history → step.after.log ≡ list' → list' ≡ extended list e
     → ((c : Content) → NoneExpiredBefore calm c → NoneExpiredBefore calm' (followed c e))
-    → IsWriting history limit copies' list' calm' (Some e)
-appended history limit copies copies' list list' calm calm' held e step w none legal small some same steps entry book log more after =
+    → retained_bytes (after (content_of (shown copies).catalogue).retained e.operation) ≤ memory
+    → IsWriting history limit memory copies' list' calm' (Some e)
+appended history limit memory copies copies' list list' calm calm' held e step w none legal small some same steps entry book log more later fits_in =
     let x = shown copies in
-    let list_is : list' ≡ extended x.prefix.log e = more ∙ ap (λ l. extended l e) (nothing_held history limit copies list calm held w none) in
+    let list_is : list' ≡ extended x.prefix.log e = more ∙ ap (λ l. extended l e) (nothing_held history limit memory copies list calm held w none) in
     let L : ℕ → Type 0 = λ n. IsLegal n (extended x.prefix.log e) in
     let a : Accepts (content_of x.catalogue) e = accepts (content_of x.catalogue) x.prefix.log e w.sound some (subst L (sym w.limit_is) legal) in
     let A : Entry → Type 0 = λ z. (z.origin.place ≤ MAX_LINES) × Accepts (content_of x.catalogue) z in
@@ -104,13 +124,15 @@ appended history limit copies copies' list list' calm calm' held e step w none l
     let follows : Follows x step = (fits.0, fits.1, book ∙ sym w.history_is, log ∙ (list_is ∙ ap (λ z. extended x.prefix.log z) (sym entry))) in
     let F : CatalogueCopy → Type 0 = λ z. Follows z step in
     let C : CatalogueCopy → Type 0 = λ z. NoneExpiredBefore calm' (followed (content_of z.catalogue) e) in
+    let M : CatalogueCopy → Type 0 = λ z. retained_bytes (after (content_of z.catalogue).retained e.operation) ≤ memory in
     record {
       history_is = ap (λ z. z.prefix.history) same ∙ w.history_is;
       limit_is = ap (λ z. (content_of z.catalogue).limit) same ∙ w.limit_is;
       sound = subst IsSound (sym same) w.sound;
       list_is = list_is ∙ ap (λ z. extended z.prefix.log e) (sym same);
-      calm_is = subst C (sym same) (after (content_of x.catalogue) (calm_of history limit copies list calm held w none));
+      calm_is = subst C (sym same) (later (content_of x.catalogue) (calm_of history limit memory copies list calm held w none));
       steps = (step, steps, entry, subst F (sym same) follows);
+      small = subst M (sym same) fits_in;
     }
 
 -- ---- what `put` makes of what is kept

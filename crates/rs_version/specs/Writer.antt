@@ -1,10 +1,13 @@
 -- What the writer has published and what it holds.
-use Rattle.std.specs.Prelude.{ℕ, ◌≡◌, ◌≢◌, ◌++◌, ◌∷◌, ◌⊎◌, [], List, Option, Some, None}
+use Rattle.std.specs.Prelude.{Bool, true, false, ℕ, ◌≡◌, ◌≢◌, ◌≤◌, ◌++◌, ◌∷◌, ◌⊎◌, [], List, Option, Some, None}
 use Rattle.logbook.specs.Pages.{Book}
 use Rattle.rs_message.specs.declared.entry.Entry.{Entry}
+use Rattle.rs_message.specs.declared.entry.Operation.{Operation}
+use Rattle.rs_message.specs.declared.entry.Operation.TheVariants.{Clear, Set, Sweep}
 use Rattle.rs_store.specs.declared.content.Content.{Content}
 use Rattle.rs_store.specs.declared.fault.Refusal.{Refusal}
 use Rattle.rs_store.specs.declared.fault.Refusal.TheVariants as refusal
+use Rattle.rs_store.specs.Bytes.{retained_bytes}
 use Rattle.rs_store.specs.Contents.{followed}
 use Rattle.rs_store.specs.Expiring.{NoneExpiredBefore}
 use Rattle.rs_store.specs.History.{IsLegal, MayNotCome, NeedsSweepAfter, cleaned, extended, sweep_after}
@@ -39,14 +42,22 @@ abbrev pub kept_content : Content → Option Entry → Content
 kept_content c None = c
 kept_content c (Some e) = followed c e
 
--- what holds of a writer's parts: the two copies, the kept list, the calm moment and the held entry
-pub record IsWriting (history : Book) (limit : ℕ) (copies : Copies) (list : List Entry) (calm : ℕ) (held : Option Entry) : Type 0 where
+-- what holds of a writer's parts: the two copies, the kept list, the calm moment and the held entry. What is kept counts no more bytes
+-- than the writer may keep
+pub record IsWriting (history : Book) (limit memory : ℕ) (copies : Copies) (list : List Entry) (calm : ℕ) (held : Option Entry) : Type 0 where
   pub history_is : (shown copies).prefix.history ≡ history
   pub limit_is : (content_of (shown copies).catalogue).limit ≡ limit
   pub sound : IsSound (shown copies)
   pub list_is : list ≡ (shown copies).prefix.log ++ listed held
   pub calm_is : NoneExpiredBefore calm (kept_content (content_of (shown copies).catalogue) held)
   pub steps : StepsFor (shown copies) held (steps_of copies)
+  pub small : retained_bytes (kept_content (content_of (shown copies).catalogue) held).retained ≤ memory
+
+-- a Clear may take the last memory, since what it clears is given back
+abbrev pub takes_last : Operation → Bool
+takes_last (Set found) = false
+takes_last (Clear topic) = true
+takes_last (Sweep moment) = false
 
 -- the list published, and nothing held
 abbrev pub shows : List Entry → Written

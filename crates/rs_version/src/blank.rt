@@ -30,6 +30,7 @@ pub struct Blank {
     places: PlaceCount,
     first: StoreCatalogue,
     second: StoreCatalogue,
+    memory: u64,
 }
 
 impl Model for Blank {
@@ -126,7 +127,18 @@ impl Blank {
             places,
             first,
             second,
+            memory: u64::MAX,
         })
+    }
+
+    /// The same store, whose retained messages may count so many bytes (see [`rs_store::bytes_of`]). The writer refuses a Set after
+    /// which they would count more, as if memory were refused, even if a Sweep would make space: a Sweep comes only if too many topics
+    /// would hold a message, and frees then what has expired. Without this call they may count any number.
+    pub fn with_memory(mut self, bytes: u64) -> Blank
+        ensures { result ≡ self }
+    {
+        self.memory = bytes;
+        self
     }
 
     /// The writer of the store, and a seat for each place, under a name that names this store.
@@ -152,6 +164,7 @@ impl Blank {
             places,
             first,
             second,
+            memory,
         } = self;
         let NewHistory {
             word,
@@ -172,7 +185,13 @@ impl Blank {
         let list: NamedList<N> = NamedList::new(prefix);
         match seats(alloc, &mut writer, &list, places) {
             Ok(seats) => Ok((
-                VersionWriter::new(rt, alloc, writer, WholeHistory::new(list, word, right)),
+                VersionWriter::new(
+                    rt,
+                    alloc,
+                    writer,
+                    WholeHistory::new(list, word, right),
+                    memory,
+                ),
                 seats,
             )),
             Err(_) => {

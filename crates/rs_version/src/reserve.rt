@@ -1,5 +1,8 @@
 //! Memory that the writer keeps for when no other is left.
 
+ghost use Rattle.std.specs.Prelude.{◌≡◌, ◌+◌, ◌<◌, ◌≤◌, [], length, vec_capacity, MatchBool, OnErr, OnOk};
+ghost use Rattle.rs_version.specs.declared.reserve.TheConstants.{BLOCK_SIZE, ENOUGH_BLOCKS};
+
 use std::alloc::{AllocError, Global};
 
 /// How many bytes a block has: no more than the largest nodes of a catalogue, so that one fits where such a node was.
@@ -11,11 +14,18 @@ const MOST_BLOCKS: usize = 64;
 /// With so many there is enough for the nodes that a change makes.
 const ENOUGH_BLOCKS: usize = 32;
 
+/// A block of memory.
+#[derive(Drop)]
+struct Block {
+    bytes: Vec<u8>,
+    ghost wide: { BLOCK_SIZE ≤ vec_capacity bytes },
+}
+
 /// Memory that nobody uses. It is in small blocks: what cleared messages leave lies apart, and has to be enough to have them back.
 #[derive(Drop)]
 pub struct Reserve {
     alloc: Global,
-    blocks: Vec<Vec<u8>>,
+    blocks: Vec<Block>,
 }
 
 impl Reserve {
@@ -32,7 +42,10 @@ impl Reserve {
     /// # Errors
     ///
     /// [`AllocError`] if there are not enough then.
-    pub fn fill(&mut self) -> Result<(), AllocError> {
+    pub fn fill(&mut self) -> Result<(), AllocError>
+        ensures enough { OnOk result (ENOUGH_BLOCKS ≤ length self.new.blocks.items) }
+        ensures kept { length self.old.blocks.items ≤ length self.new.blocks.items }
+    {
         for _ in self.blocks.len()..MOST_BLOCKS {
             if self.take_block().is_err() {
                 break;
@@ -46,16 +59,22 @@ impl Reserve {
     }
 
     /// Takes one more block.
-    fn take_block(&mut self) -> Result<(), AllocError> {
-        let block = Vec::with_capacity(self.alloc, BLOCK_SIZE)?;
-        match self.blocks.push(block) {
+    fn take_block(&mut self) -> Result<(), AllocError>
+        ensures more { OnOk result (length self.new.blocks.items ≡ length self.old.blocks.items + 1) }
+        ensures refused { OnErr result (self.new.blocks.items ≡ self.old.blocks.items) }
+    {
+        let bytes = Vec::with_capacity(self.alloc, BLOCK_SIZE)?;
+        match self.blocks.push(Block { bytes }) {
             Ok(()) => Ok(()),
             Err(_) => Err(AllocError),
         }
     }
 
     /// Gives all blocks back. Whether there were any.
-    pub fn give_back(&mut self) -> bool {
+    pub fn give_back(&mut self) -> bool
+        ensures some { MatchBool result (0 < length self.old.blocks.items) (self.old.blocks.items ≡ []) }
+        ensures none { self.new.blocks.items ≡ [] }
+    {
         let had_some = !self.blocks.is_empty();
         self.blocks = Vec::new(self.alloc);
         had_some

@@ -1,11 +1,16 @@
 //! The one writer of a store.
 
-ghost use Rattle.std.specs.Prelude.{◌≡◌, ◌≢◌, ◌≤◌, ◌∷◌, ◌⊎◌, false, List, [], fold, length, drop, Some, None, MatchOption, MatchResult, IfOk, IfErr, IfNone, IfSome, OnErr, OnOk, OnSome};
+ghost use Rattle.std.specs.Prelude.{◌≡◌, ◌≢◌, ◌≤◌, ◌∷◌, ◌⊎◌, false, nat_le, List, [], fold, length, drop, Some, None, MatchOption, MatchResult, IfOk, IfErr, IfNone, IfSome, OnErr, OnOk, OnSome};
+ghost use Rattle.std.specs.List.Sorted.{IsStrictlySortedBy};
+ghost use Rattle.std.specs.Map.{keys_of};
 ghost use Rattle.std.specs.Option.{option_map};
 ghost use mathlib.Core.List.{IsPrefix};
 ghost use Rattle.rs_message.specs.Messages.{is_sweep};
+ghost use Rattle.rs_topic.specs.Order.{topic_cmp};
 ghost use Rattle.rs_store.specs.Adding.{Adds};
-ghost use Rattle.rs_store.specs.Contents.{empty};
+ghost use Rattle.rs_store.specs.Bytes.{retained_bytes};
+ghost use Rattle.rs_store.specs.Contents.{after, empty};
+ghost use Rattle.rs_store.specs.declared.content.Content.{Content};
 ghost use Rattle.rs_store.specs.Expiring.{NoneExpiredBefore};
 ghost use Rattle.rs_message.specs.declared.entry.Entry.{Entry};
 ghost use Rattle.rs_store.specs.History.{IsLegal, Stands, extended};
@@ -13,7 +18,8 @@ ghost use Rattle.rs_version.specs.Catalogues.{content_of};
 ghost use Rattle.rs_version.specs.Copies.{shown, steps_of};
 ghost use Rattle.rs_version.specs.Receipts.{StandsAt};
 ghost use Rattle.rs_version.specs.VersionRule.{Follows, applied, state};
-ghost use Rattle.rs_version.specs.Writer.{Written, Declines, IsReady, Precedes, Refuses, holds_back, kept_of, released, shows};
+ghost use Rattle.rs_version.specs.Writer.{Written, Declines, IsReady, Precedes, Refuses, holds_back, kept_of, released, shows, takes_last};
+ghost use Rattle.rs_version.specs.declared.reserve.TheConstants.{ENOUGH_BLOCKS};
 
 use crate::catalogue::StoreCatalogue;
 use crate::catalogue_copy::CopyStep;
@@ -24,7 +30,7 @@ use crate::named::{NamedList, WholeHistory};
 use crate::receipt::{Receipt, Told};
 use crate::reserve::Reserve;
 use rs_message::{Entry, Operation, Origin};
-use rs_store::{Calm, Refusal, judge};
+use rs_store::{Calm, Catalogue, Refusal, bytes_of, judge};
 use std::alloc::{AllocError, Global};
 use std::marker::Model;
 use std::sync::Wait;
@@ -43,6 +49,8 @@ pub struct VersionWriter<N: StoreName, R: Wait + Drop> {
     calm: Calm,
     held: Option<Entry>,
     reserve: Reserve,
+    // How many bytes the retained messages of the kept list may count.
+    memory: u64,
 }
 
 impl<N: StoreName, R: Wait + Drop> Model for VersionWriter<N, R> {
@@ -53,7 +61,7 @@ impl<N: StoreName, R: Wait + Drop> Model for VersionWriter<N, R> {
 
     ghost view = { λ w. record { published = (shown w.copies).prefix.log; held = w.held } };
 
-    ghost invariant = { λ w. IsWriting N.history N.limit w.copies w.history w.calm w.held };
+    ghost invariant = { λ w. IsWriting N.history N.limit w.memory w.copies w.history w.calm w.held };
 }
 
 /// Whether the entry may come next, or after which Sweep.
@@ -77,8 +85,35 @@ fn judge_on(
     }
 }
 
+/// Whether the retained messages count at most `memory` bytes after the entry, as they do before it. What a Set replaces is looked up
+/// only if the Set would be too large for a new topic.
+fn fits(catalogue: &StoreCatalogue, memory: u64, entry: &Entry) -> bool
+    requires sorted { IsStrictlySortedBy topic_cmp (keys_of (content_of catalogue.now).retained) }
+    requires small { retained_bytes (content_of catalogue.now).retained ≤ memory }
+    ensures { result ≡ nat_le (retained_bytes (after (content_of catalogue.now).retained entry.now.operation)) memory }
+{
+    match &entry.operation {
+        Operation::Set(found) => {
+            let (topic, message) = (found.topic(), found.message());
+            let used = catalogue.bytes();
+            let free = memory - used;
+            let wanted = bytes_of(topic, message);
+            if wanted <= free {
+                return true;
+            }
+            // The message that it replaces gives its bytes back.
+            let replaced = catalogue.bytes_at(topic);
+            wanted - free <= replaced
+        }
+        Operation::Clear(_) => true,
+        Operation::Sweep(_) => true,
+    }
+}
+
 /// Whether the entry may take the last memory: what a Clear clears is given back.
-fn may_take_last(entry: &Entry) -> bool {
+fn may_take_last(entry: &Entry) -> bool
+    ensures { result ≡ takes_last entry.now.operation }
+{
     match &entry.operation {
         Operation::Clear(_) => true,
         Operation::Set(_) | Operation::Sweep(_) => false,
@@ -95,6 +130,7 @@ fn next_step<N: StoreName>(
     requires { IsLegal N.limit (extended history.old entry.now) }
     ensures step { IfOk result (λ s. (s.entry ≡ entry.now) × (s.after.history ≡ N.history) × (s.after.log ≡ history.new)) }
     ensures history { MatchResult result (λ _. history.new ≡ extended history.old entry.now) (λ _. history.new ≡ history.old) }
+    ensures reserve { OnOk result (takes_last entry.now.operation ≡ false → ENOUGH_BLOCKS ≤ length reserve.new.blocks.items) }
 {
     if !may_take_last(entry) {
         reserve.fill()?;
@@ -135,6 +171,7 @@ impl<N: StoreName, R: Wait + Drop> Drop for VersionWriter<N, R> {
             calm: _calm,
             held: _held,
             reserve: _reserve,
+            memory: _memory,
         } = self;
         copies.end(&rt);
     }
@@ -147,6 +184,7 @@ impl<N: StoreName, R: Wait + Drop> VersionWriter<N, R> {
         alloc: Global,
         writer: CopyWriter,
         history: WholeHistory<N>,
+        memory: u64,
     ) -> VersionWriter<N, R>
         requires steps { drop writer.behind writer.log.items ≡ [] }
         requires history { (writer.desk.shown.value.prefix.history ≡ N.history) × (history ≡ [])
@@ -164,6 +202,7 @@ impl<N: StoreName, R: Wait + Drop> VersionWriter<N, R> {
             calm: Calm::new(),
             held: None,
             reserve: Reserve::new(alloc),
+            memory,
         }
     }
 
@@ -191,7 +230,7 @@ impl<N: StoreName, R: Wait + Drop> VersionWriter<N, R> {
         judge_on(self.copies.catalogue(), &mut self.calm, entry)
     }
 
-    /// Appends the entry, which is held from then on.
+    /// Appends the entry, which is held from then on. An error, too, if the messages would count more bytes than they may.
     fn append(&mut self, entry: Entry) -> Result<(), AllocError>
         requires none { self.old.held ≡ None }
         requires legal { IsLegal N.limit (extended self.old.published entry) }
@@ -200,6 +239,10 @@ impl<N: StoreName, R: Wait + Drop> VersionWriter<N, R> {
     {
         // For the proof: these calls say which places and serials an origin may have.
         let (_place, _serial) = (entry.origin.place(), entry.origin.serial());
+        // Refused: its message would count more bytes than there may be.
+        if !fits(self.copies.catalogue(), self.memory, &entry) {
+            return Err(AllocError);
+        }
         let calm = self.calm.with_entry(&entry);
         let step = next_step(&mut self.history, &mut self.reserve, &entry)?;
         self.copies.push(step);
@@ -256,7 +299,8 @@ impl<N: StoreName, R: Wait + Drop> VersionWriter<N, R> {
     /// - [`Stale`](PutFault::Stale) and [`Full`](PutFault::Full) as in [`rs_store::judge`]. What was held is published.
     /// - [`NoMemory`](PutFault::NoMemory): the entry is not kept. Either a held entry could not be published, and nothing
     ///   changed; or what was held is published, and there was no memory for a copy of the entry, which may come next, or for the
-    ///   Sweep before it. The Sweep may be kept then: published, or held.
+    ///   Sweep before it. The Sweep may be kept then: published, or held. So it is, too, with a Set after which the messages would count
+    ///   more bytes than they may (see [`Blank::with_memory`](crate::Blank::with_memory)). Nothing is allocated for it.
     /// - [`Held`](PutFault::Held): the kept list from before is published, with the Sweep if there is one, and the entry is held.
     pub fn put(&mut self, entry: Entry) -> Result<Receipt<N>, PutFault>
         requires { is_sweep entry.operation ≡ false }
@@ -320,6 +364,20 @@ impl<N: StoreName, R: Wait + Drop> VersionWriter<N, R> {
         ensures same { self.new ≡ self.old }
     {
         self.history.note_covered(&told.list);
+    }
+
+    /// How many bytes the retained messages of the published list count.
+    pub fn bytes(&self) -> u64
+        ensures { (c : Content) × Stands c self.now.published × (result ≡ retained_bytes c.retained) }
+    {
+        self.copies.catalogue().bytes()
+    }
+
+    /// How many topics hold a message after the published list.
+    pub fn topics(&self) -> u32
+        ensures { (c : Content) × Stands c self.now.published × (result ≡ length c.retained) }
+    {
+        self.copies.catalogue().count()
     }
 
     /// The origin of the held entry.

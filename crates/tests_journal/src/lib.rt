@@ -5,6 +5,12 @@
 #[cfg(test)]
 mod crashes;
 #[cfg(test)]
+mod faulty;
+#[cfg(test)]
 mod headers;
 #[cfg(test)]
+mod real;
+#[cfg(test)]
 mod script;
+#[cfg(test)]
+mod syncs;

@@ -4,7 +4,7 @@ use kit_test::{CONNACK, CONNECT, REPLAYED, SUBSCRIBED, is_shown};
 use log::Log;
 use rs_message::PlaceCount;
 use rs_store::TopicLimit;
-use rs_tcp_server::{ListenFault, Server, Summary};
+use rs_tcp_server::{ListenFault, Server, Settings, Summary};
 use std::alloc::Global;
 use std::io;
 use std::io::{ErrorKind, Read, Write};
@@ -118,6 +118,22 @@ fn are_served<
     Ok(first_went && second_went && read)
 }
 
+fn settings(
+    connections: u64,
+    places: u8,
+    clients: u16,
+    idle: Option<Duration>,
+) -> Result<Settings, Fail> {
+    Ok(Settings {
+        connections,
+        topics: TopicLimit::new(10).ok_or("10 topics")?,
+        memory: None,
+        places: PlaceCount::new(places).ok_or("places")?,
+        clients,
+        idle,
+    })
+}
+
 /// Starts a server: its address, and the thread that serves.
 fn start<
     H: Clock
@@ -139,18 +155,8 @@ fn start<
     clients: u16,
     idle: Option<Duration>,
 ) -> Result<(String, JoinHandle<Option<Summary>>), Fail> {
-    let places = PlaceCount::new(places).ok_or("places")?;
-    let limit = TopicLimit::new(10).ok_or("10 topics")?;
-    let server = Server::bind(
-        &rt,
-        alloc,
-        "127.0.0.1:0",
-        connections,
-        limit,
-        places,
-        clients,
-        idle,
-    )?;
+    let settings = settings(connections, places, clients, idle)?;
+    let server = Server::bind(&rt, alloc, "127.0.0.1:0", settings)?;
     let address = server.address()?;
     let serving = spawn(&rt, move || server.run(rt).ok())?;
     Ok((address, serving))
@@ -223,6 +229,10 @@ fn faults_have_a_text(rt: HostRuntime) {
         (
             ListenFault::Address(taken),
             "the address cannot be listened on: address in use",
+        ),
+        (
+            ListenFault::Metrics(io::Error::from(ErrorKind::AddrInUse)),
+            "the address for metrics cannot be listened on: address in use",
         ),
         (ListenFault::NoMemory, "out of memory"),
         (ListenFault::NoThread, "no thread can be started"),
@@ -300,6 +310,52 @@ fn a_fleet_is_answered(rt: HostRuntime) -> Result<(), Fail> {
     }
     drop(clients);
     assert!(rt; serving.join(&rt) == fleet(40, 40));
+    Ok(())
+}
+
+const HEALTH: &[u8] = b"GET /healthz HTTP/1.1\r\nHost: a\r\n\r\n";
+
+const HEALTHY: &[u8] = b"HTTP/1.1 200 OK\r\n";
+
+/// How often its health is asked for, with a pause of so many milliseconds. Its writer may begin a little later.
+const TRIES: u64 = 1_000;
+
+const PAUSE: u64 = 10;
+
+/// Whether the writer of a server is told to take changes, before long.
+fn is_healthy<H: Clock + Net<Listener = TcpListener, Stream = TcpStream>>(
+    rt: &H,
+    address: &str,
+) -> io::Result<bool> {
+    for _ in 0..TRIES {
+        let mut asking = TcpStream::connect(rt, address)?;
+        if is_answered(&mut asking, &(HEALTH, HEALTHY))? {
+            return Ok(true);
+        }
+        sleep(rt, Duration::from_millis(PAUSE));
+    }
+    Ok(false)
+}
+
+/// Its health is told while it runs. Once its clients have ended, it ends, and nobody is told any more.
+#[test]
+fn a_server_tells_its_health(rt: HostRuntime) -> Result<(), Fail> {
+    let alloc = rt.alloc();
+    let server = Server::bind(&rt, alloc, "127.0.0.1:0", settings(1, 1, 1, None)?)?;
+    assert!(rt; server.metrics_address()?.is_none());
+    let server = server.with_metrics(&rt, "127.0.0.1:0")?;
+    let address = server.address()?;
+    let told = server.metrics_address()?.ok_or("no address")?;
+    let serving = spawn(&rt, move || server.run(rt).ok())?;
+    assert!(rt; is_healthy(&rt, told.as_str())?);
+    assert!(rt; is_served(&rt, address.as_str(), PUBLISH, PUBACK));
+    let summary = Summary {
+        threads: 1,
+        clients: 1,
+        changes: Some(1),
+    };
+    assert!(rt; serving.join(&rt) == Some(summary));
+    assert!(rt; TcpStream::connect(&rt, told.as_str()).is_err());
     Ok(())
 }
 

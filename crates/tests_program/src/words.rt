@@ -44,7 +44,7 @@ fn words_ask_for_a_pipe(rt: HostRuntime) -> Result<(), Fail> {
 fn words_ask_to_listen(rt: HostRuntime) -> Result<(), Fail> {
     let alloc = rt.alloc();
     let all =
-        "listen --address [::1]:0 --places 64 --clients 10000 --topics 65536 --connections 1000000 --idle 86400 --log";
+        "listen --address [::1]:0 --places 64 --clients 10000 --topics 65536 --memory 17179869183G --connections 1000000 --idle 86400 --log --metrics [::1]:9100";
     let commands = [
         (
             "listen --address a:1 --connections 1",
@@ -52,9 +52,11 @@ fn words_ask_to_listen(rt: HostRuntime) -> Result<(), Fail> {
             4,
             4,
             10_000,
+            None,
             Some(1),
             None,
             false,
+            None,
         ),
         (
             "listen --connections 7 --topics 1 --places 1 --address x",
@@ -62,29 +64,35 @@ fn words_ask_to_listen(rt: HostRuntime) -> Result<(), Fail> {
             1,
             1,
             1,
+            None,
             Some(7),
             None,
             false,
+            None,
         ),
         (
-            "listen --log --idle 1 --connections 2 --address x --clients 4",
+            "listen --log --idle 1 --connections 2 --address x --clients 4 --memory 1",
             "x",
             4,
             4,
             10_000,
+            Some(1),
             Some(2),
             Some(1),
             true,
+            None,
         ),
         (
-            "listen --address=:: --connections=+09 --places=02",
+            "listen --address=:: --connections=+09 --places=02 --memory=02K --metrics x",
             "::",
             2,
             2,
             10_000,
+            Some(2_048),
             Some(9),
             None,
             false,
+            Some("x"),
         ),
         (
             all,
@@ -92,35 +100,58 @@ fn words_ask_to_listen(rt: HostRuntime) -> Result<(), Fail> {
             MAX_PLACES,
             MAX_CLIENTS,
             MAX_TOPICS,
+            Some(u64::MAX - ((1 << 30) - 1)),
             Some(MAX_CONNECTIONS),
             Some(MAX_IDLE),
             true,
+            Some("[::1]:9100"),
         ),
         (
-            "listen --endless --idle=3 --clients=5 --address=e",
+            "listen --endless --metrics=m --idle=3 --clients=5 --address=e --memory=512M",
             "e",
             4,
             5,
             10_000,
+            Some(512 << 20),
             None,
             Some(3),
             false,
+            Some("m"),
         ),
     ];
-    for (command, address, places, clients, topics, connections, idle, log) in commands {
+    for (
+        command,
+        address,
+        places,
+        clients,
+        topics,
+        memory,
+        connections,
+        idle,
+        log,
+        metrics,
+    ) in commands {
         let wanted = Run::Listen {
             address: String::from_str(alloc, address)?,
             places: PlaceCount::new(places).ok_or("places")?,
             clients,
             topics: TopicLimit::new(topics).ok_or("topics")?,
+            memory,
             connections,
             idle,
             log,
+            metrics: match metrics {
+                Some(metrics) => Some(String::from_str(alloc, metrics)?),
+                None => None,
+            },
         };
         assert!(rt; asks(alloc, command, &wanted)?, "{command}");
     }
     Ok(())
 }
+
+// What is said of a size that is none.
+const SIZES: &str = "error: --memory takes a number of bytes from 1 to 18446744073709551615";
 
 // Each refused command line, and what the text says.
 const REFUSED: &[(&str, &str)] = &[
@@ -218,6 +249,38 @@ const REFUSED: &[(&str, &str)] = &[
         "listen --address a:1 --connections 1 --idle 1 --idle 1",
         "the argument '--idle <1-86400>' cannot be used multiple times",
     ),
+    ("listen --address a:1 --endless --memory 0", SIZES),
+    ("listen --address a:1 --endless --memory K", SIZES),
+    ("listen --address a:1 --endless --memory +1", SIZES),
+    ("listen --address a:1 --endless --memory 1k", SIZES),
+    ("listen --address a:1 --endless --memory 1KB", SIZES),
+    ("listen --address a:1 --endless --memory 1.5G", SIZES),
+    ("listen --address a:1 --endless --memory 0G", SIZES),
+    ("listen --address a:1 --endless --memory M1", SIZES),
+    (
+        "listen --address a:1 --endless --memory 17179869184G",
+        SIZES,
+    ),
+    (
+        "listen --address a:1 --endless --memory 18446744073709551616",
+        SIZES,
+    ),
+    (
+        "listen --address a:1 --endless --memory",
+        "a value is required for '--memory <SIZE>'",
+    ),
+    (
+        "listen --address a:1 --endless --memory 1 --memory 1",
+        "the argument '--memory <SIZE>' cannot be used multiple times",
+    ),
+    (
+        "listen --address a:1 --endless --metrics",
+        "a value is required for '--metrics <ADDRESS>'",
+    ),
+    (
+        "listen --address a:1 --endless --metrics a --metrics a",
+        "the argument '--metrics <ADDRESS>' cannot be used multiple times",
+    ),
     (
         "listen --address a:1 --connections 1 --log --log",
         "the argument '--log' cannot be used multiple times",
@@ -258,6 +321,9 @@ fn help_and_the_version_are_shown(rt: HostRuntime) -> Result<(), Fail> {
         ("listen --help", "lost at the end"),
         ("listen --help", "There is no TLS"),
         ("listen --help", "--places <1-64>"),
+        ("listen --help", "--memory <SIZE>"),
+        ("listen --help", "--metrics <ADDRESS>"),
+        ("listen --help", "GET /metrics"),
         ("listen --help", "[default: 10000]"),
         ("--version", "rstored 0.1.0"),
     ];

@@ -3,7 +3,7 @@
 ghost use Rattle.std.specs.Prelude.{◌≡◌, IfOk, false};
 ghost use Rattle.clap.specs.Words.{app_of, rule_of};
 ghost use Rattle.clap.specs.declared.builder.command.Command.TheViews.{out-Command as fields_of};
-ghost use Rattle.rs_program.specs.CommandLine.{address_option, clients_option, connections_option, endless_option, idle_option, listen_words, log_option, number_option, pipe_words, places_option, rstored_words, topics_option};
+ghost use Rattle.rs_program.specs.CommandLine.{address_option, clients_option, connections_option, endless_option, idle_option, listen_words, log_option, memory_option, metrics_option, number_option, pipe_words, places_option, rstored_words, topics_option};
 
 use clap::builder::ValueParser;
 use clap::{Arg, ArgAction, Command};
@@ -58,14 +58,20 @@ its Keep Alive is not cut off if --idle is at least one and a half times that in
 
 With --log, it writes a line to standard error when a connection begins and when it ends, with the
 place of its client, or the client's number if there are more clients than places, its own number
-there, the client's address, how it ended and what it was refused; one when the store is full, and
-one when it may take new topics again; one if the process may have too few descriptors for its
-clients; and one if it cannot listen, with the reason.
+there, the client's address, how it ended and what it was refused; one when the store is full or has
+no memory left, and one when it takes new topics or messages again; one if the process may have too
+few descriptors for its clients; and one if it cannot listen, with the reason.
 
-The store is in memory. It is empty at the start, and lost at the end.
+With --metrics, a thread of its own answers requests by HTTP at one more address, whose number it prints
+too: GET /metrics has what the server counts, for Prometheus, and GET /healthz says whether its store
+takes changes. The thread serves up to eight requests at a time, each for up to five seconds.
+
+The store is in memory. It is empty at the start, and lost at the end. With --memory, a message is
+refused after which all messages would count more bytes: each its topic, its payload and properties,
+and 360 more.
 
 There is no TLS, and user names and passwords are not checked. Listen only where none but trusted
-clients can reach the address.";
+clients can reach the address. Nor is anybody asked who reads the metrics.";
 
 const ADDRESS_HELP: &str =
     "The address to listen on: a host's name, an IPv4 or an IPv6 address, and a port, \
@@ -79,6 +85,9 @@ const CLIENTS_HELP: &str =
 
 const TOPICS_HELP: &str = "How many topics may hold a message";
 
+const MEMORY_HELP: &str =
+    "How many bytes the messages may count: a number, or one before K, M or G, as 512M; any number, if it is not given";
+
 const CONNECTIONS_HELP: &str = "After how many connections the program ends";
 
 const ENDLESS_HELP: &str = "Go on until a signal ends the program, instead of --connections";
@@ -86,7 +95,10 @@ const ENDLESS_HELP: &str = "Go on until a signal ends the program, instead of --
 const IDLE_HELP: &str = "After how many seconds an idle connection ends; never, if it is not given";
 
 const LOG_HELP: &str =
-    "Write a line to standard error when a connection begins and when it ends, and when the store is full";
+    "Write a line to standard error when a connection begins and when it ends, and when the store refuses messages";
+
+const METRICS_HELP: &str =
+    "The address at which metrics are told by HTTP, as localhost:9100; nowhere, if it is not given";
 
 // The value names `1-64`, `1-10000`, `1-65536`, `1-1000000` and `1-86400` below, and the default of `--topics`, which is the limit of
 // `pipe`.
@@ -190,6 +202,16 @@ fn topics_option<'a>(alloc: Global) -> Arg<'a>
         .help(TOPICS_HELP)
 }
 
+fn memory_option<'a>(alloc: Global) -> Arg<'a>
+    ensures rule { rule_of result ≡ memory_option }
+    ensures local { result.global ≡ false }
+{
+    Arg::new(alloc, "memory")
+        .long("memory")
+        .value_name("SIZE")
+        .help(MEMORY_HELP)
+}
+
 fn connections_option<'a>(alloc: Global) -> Arg<'a>
     ensures rule { rule_of result ≡ connections_option }
     ensures local { result.global ≡ false }
@@ -224,6 +246,16 @@ fn log_option<'a>(alloc: Global) -> Arg<'a>
         .help(LOG_HELP)
 }
 
+fn metrics_option<'a>(alloc: Global) -> Arg<'a>
+    ensures rule { rule_of result ≡ metrics_option }
+    ensures local { result.global ≡ false }
+{
+    Arg::new(alloc, "metrics")
+        .long("metrics")
+        .value_name("ADDRESS")
+        .help(METRICS_HELP)
+}
+
 fn listen_command<'a>(alloc: Global) -> Result<Command<'a>, AllocError>
     ensures shape { IfOk result (λ c. app_of c ≡ listen_words) }
     ensures local { IfOk result (λ c. (fields_of c).has_globals ≡ false) }
@@ -235,8 +267,10 @@ fn listen_command<'a>(alloc: Global) -> Result<Command<'a>, AllocError>
         .arg(places_option(alloc))?
         .arg(clients_option(alloc))?
         .arg(topics_option(alloc))?
+        .arg(memory_option(alloc))?
         .arg(connections_option(alloc))?
         .arg(endless_option(alloc))?
         .arg(idle_option(alloc))?
-        .arg(log_option(alloc))
+        .arg(log_option(alloc))?
+        .arg(metrics_option(alloc))
 }

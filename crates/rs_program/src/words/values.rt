@@ -1,17 +1,24 @@
 //! The values of a command's options.
 
-ghost use Rattle.std.specs.Prelude.{◌≡◌, ◌≤◌, IfOk, IfSome, codes};
-ghost use Rattle.clap.specs.Words.{found_of, rows_of};
+ghost use Rattle.std.specs.Prelude.{◌≡◌, ◌<◌, ◌≤◌, ◌^◌, IfOk, IfSome, codes};
+ghost use Rattle.std.specs.Option.{option_map};
+ghost use Rattle.std.specs.String.{string_bytes};
+ghost use Rattle.clap.specs.Words.{first_of, found_of, rows_of};
 ghost use Rattle.rs_message.specs.declared.entry.TheConstants.{MAX_PLACES};
 ghost use Rattle.rs_store.specs.declared.limit.TheConstants.{MAX_TOPICS};
-ghost use Rattle.rs_program.specs.CommandLine.{AreClientsOf, IsFlagOf, IsInRange, IsNumberGiven, IsNumberOf, IsRunOf};
+ghost use Rattle.rs_program.specs.CommandLine.{AreClientsOf, IsFlagOf, IsInRange, IsNumberGiven, IsNumberOf, IsRunOf, IsSizeGiven};
 
 use crate::words::commands::{MAX_CLIENTS, MAX_CONNECTIONS, MAX_IDLE};
+use crate::words::size::read_size;
 use crate::words::{Run, WordsFault, refused};
 use clap::ArgMatches;
 use rs_message::{MAX_PLACES, PlaceCount};
 use rs_store::{MAX_TOPICS, TopicLimit};
 use std::alloc::Global;
+
+const NO_SIZE: &str = "\
+error: --memory takes a number of bytes from 1 to 18446744073709551615, or a number before K, M or G, as 512M
+";
 
 pub(super) fn pipe_of(alloc: Global, found: &ArgMatches<'_>) -> Result<Run, WordsFault>
     ensures run { IfOk result (IsRunOf (codes "pipe") (rows_of (found_of found.now))) }
@@ -42,12 +49,16 @@ pub(super) fn listen_of(alloc: Global, found: &ArgMatches<'_>) -> Result<Run, Wo
     let Some(clients) = client_count(found, places) else {
         return Err(missing(alloc));
     };
+    let Some(memory) = size_given(found, "memory") else {
+        return Err(refused(alloc, NO_SIZE));
+    };
     if clients < u16::from(places.get()) {
         return Err(refused(alloc, "error: --clients is less than --places\n"));
     }
     if connections.is_some() == flag(found, "endless") {
         return Err(refused(alloc, "error: give either --connections or --endless\n"));
     }
+    let metrics = text_given(alloc, found, "metrics")?;
     let Ok(address) = String::from_str(alloc, address) else {
         return Err(WordsFault::NoMemory);
     };
@@ -56,9 +67,11 @@ pub(super) fn listen_of(alloc: Global, found: &ArgMatches<'_>) -> Result<Run, Wo
         places,
         clients,
         topics,
+        memory,
         connections,
         idle,
         log: flag(found, "log"),
+        metrics,
     })
 }
 
@@ -110,6 +123,37 @@ fn number_given(found: &ArgMatches<'_>, option: &str, least: u64, most: u64) -> 
             let number = number(found, option, least, most)?;
             Some(Some(number))
         }
+    }
+}
+
+/// The size of an option that may be left out. `None` if it was given a text that is none.
+fn size_given(found: &ArgMatches<'_>, option: &str) -> Option<Option<u64>>
+    ensures given { IfSome result (IsSizeGiven (rows_of (found_of found.now)) option.now) }
+    ensures range { IfSome result (λ size. IfSome size (λ bytes. (1 ≤ bytes) × (bytes < 2 ^ 64))) }
+{
+    match found.get_str(option) {
+        None => Some(None),
+        Some(text) => {
+            let bytes = read_size(text)?;
+            Some(Some(bytes))
+        }
+    }
+}
+
+/// The text of an option that may be left out.
+fn text_given(
+    alloc: Global,
+    found: &ArgMatches<'_>,
+    option: &str,
+) -> Result<Option<String>, WordsFault>
+    ensures { IfOk result (λ text. first_of option.now (rows_of (found_of found.now)) ≡ option_map string_bytes text) }
+{
+    match found.get_str(option) {
+        None => Ok(None),
+        Some(text) => match String::from_str(alloc, text) {
+            Ok(text) => Ok(Some(text)),
+            Err(_) => Err(WordsFault::NoMemory),
+        },
     }
 }
 

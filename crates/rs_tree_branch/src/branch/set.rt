@@ -5,7 +5,7 @@ ghost use Rattle.std.specs.Arc.{arc_value};
 ghost use Rattle.std.specs.BTreeMap.{insert_entry};
 ghost use Rattle.rs_topic.specs.Order.{path_cmp};
 ghost use Rattle.rs_topic.specs.Rests.{levels_from};
-ghost use Rattle.rs_tree_bucket.specs.Spots.{IsFull, is_there};
+ghost use Rattle.rs_tree_bucket.specs.Spots.{IsFull, found_at};
 ghost use Rattle.rs_tree_branch.specs.Nodes.{stem_spots};
 ghost use Rattle.rs_tree_branch.specs.Chunks.{Leads};
 
@@ -16,6 +16,7 @@ use rs_message::Found;
 use rs_topic::level_at;
 use rs_tree_bucket::{Bucket, Label, Leaves, shared_levels, skip_chain};
 use std::alloc::{AllocError, Global};
+use std::mem;
 use std::sync::Arc;
 
 /// A chain of the levels that the messages of a bucket share, and a branch of the same messages.
@@ -30,7 +31,7 @@ fn stem_of(alloc: Global, bucket: &Leaves) -> Result<Stem, AllocError>
         let Some(next) = skip_chain(chain.as_slice(), leaf.found.topic().as_bytes(), leaf.at) else {
             return Err(AllocError);
         };
-        branch.hold(alloc, leaf.found.copy()?, next)?;
+        drop(branch.hold(alloc, leaf.found.copy()?, next)?);
     }
     Ok(Stem { chain, branch })
 }
@@ -57,18 +58,18 @@ fn renew_label(
 }
 
 impl Child {
-    /// Sets a message in a bucket, and returns whether there was one. If memory is refused, nothing changes.
+    /// Sets a message in a bucket, and returns the one that it replaces. If memory is refused, nothing changes.
     fn hold(
         &mut self,
         alloc: Global,
         found: Found,
         at: usize,
         next: usize,
-    ) -> Result<bool, AllocError>
+    ) -> Result<Option<Found>, AllocError>
         requires { Leads self.old (levels_from at found.topic) (levels_from next found.topic) }
         ensures level { self.new.level ≡ self.old.level }
         ensures done { OnOk result (self.new.spots ≡ insert_entry path_cmp self.old.spots (levels_from at found.topic) found) }
-        ensures existed { IfOk result (λ was. was ≡ is_there (levels_from at found.topic) self.old.spots) }
+        ensures replaced { IfOk result (λ old. old ≡ found_at (levels_from at found.topic) self.old.spots) }
         ensures refused { OnErr result (self.new.spots ≡ self.old.spots) }
     {
         let Below::Few(bucket) = &mut self.below else {
@@ -76,9 +77,9 @@ impl Child {
             return Err(AllocError);
         };
         let level = renew_label(alloc, &self.level, bucket, &found, at, next)?;
-        let was = bucket.set(alloc, found, next)?;
+        let old = bucket.set(alloc, found, next)?;
         self.level = level;
-        Ok(was)
+        Ok(old)
     }
 
     /// Puts a branch in the place of a bucket that has too many messages. If memory is refused, the bucket stays, and the next entry
@@ -101,7 +102,7 @@ impl Child {
         }
     }
 
-    /// Sets the message at the rest of its topic, of which the first level ends before `next`, and returns whether there was one. If
+    /// Sets the message at the rest of its topic, of which the first level ends before `next`, and returns the one that it replaces. If
     /// memory is refused, nothing changes.
     #[cycle(set)]
     fn set(
@@ -111,12 +112,12 @@ impl Child {
         at: usize,
         next: usize,
         path: &mut IndexPath,
-    ) -> Result<bool, AllocError>
+    ) -> Result<Option<Found>, AllocError>
         requires full { IsFull self.old.spots }
         requires leads { Leads self.old (levels_from at found.topic) (levels_from next found.topic) }
         ensures level { self.new.level ≡ self.old.level }
         ensures done { OnOk result (self.new.spots ≡ insert_entry path_cmp self.old.spots (levels_from at found.topic) found) }
-        ensures existed { IfOk result (λ was. was ≡ is_there (levels_from at found.topic) self.old.spots) }
+        ensures replaced { IfOk result (λ old. old ≡ found_at (levels_from at found.topic) self.old.spots) }
         ensures refused { OnErr result (self.new.spots ≡ self.old.spots) }
     {
         match &mut self.below {
@@ -167,10 +168,15 @@ impl Stem {
     }
 
     /// Sets a message whose topic leaves the chain. If memory is refused, nothing changes.
-    fn set_beside(&mut self, alloc: Global, found: Found, at: usize) -> Result<bool, AllocError>
+    fn set_beside(
+        &mut self,
+        alloc: Global,
+        found: Found,
+        at: usize,
+    ) -> Result<Option<Found>, AllocError>
         requires { IsFull self.old.branch.spots }
         ensures done { OnOk result (stem_spots self.new ≡ insert_entry path_cmp (stem_spots self.old) (levels_from at found.topic) found) }
-        ensures existed { IfOk result (λ was. was ≡ is_there (levels_from at found.topic) (stem_spots self.old)) }
+        ensures replaced { IfOk result (λ old. old ≡ found_at (levels_from at found.topic) (stem_spots self.old)) }
         ensures refused { OnErr result (stem_spots self.new ≡ stem_spots self.old) }
     {
         let shared = shared_levels(
@@ -184,7 +190,7 @@ impl Stem {
         self.branch.hold(alloc, found, shared.from)
     }
 
-    /// Sets the message at the rest of its topic, and returns whether there was one. If memory is refused, nothing changes.
+    /// Sets the message at the rest of its topic, and returns the one that it replaces. If memory is refused, nothing changes.
     #[cycle(set)]
     fn set_here(
         &mut self,
@@ -192,22 +198,22 @@ impl Stem {
         found: Found,
         at: usize,
         path: &mut IndexPath,
-    ) -> Result<bool, AllocError>
+    ) -> Result<Option<Found>, AllocError>
         requires { IsFull self.old.branch.spots }
         ensures done { OnOk result (stem_spots self.new ≡ insert_entry path_cmp (stem_spots self.old) (levels_from at found.topic) found) }
-        ensures existed { IfOk result (λ was. was ≡ is_there (levels_from at found.topic) (stem_spots self.old)) }
+        ensures replaced { IfOk result (λ old. old ≡ found_at (levels_from at found.topic) (stem_spots self.old)) }
         ensures refused { OnErr result (stem_spots self.new ≡ stem_spots self.old) }
     {
         let Some(next) = skip_chain(self.chain.as_slice(), found.topic().as_bytes(), at) else {
             return self.set_beside(alloc, found, at);
         };
-        let was = self.branch.set(alloc, found, next, path)?;
+        let old = self.branch.set(alloc, found, next, path)?;
         // A message that takes another one's place adds no child.
-        if was {
-            return Ok(true);
+        if old.is_some() {
+            return Ok(old);
         }
         self.branch.fold(alloc);
-        Ok(false)
+        Ok(old)
     }
 
     /// The same in place if the stem has one owner, and else in a copy.
@@ -218,35 +224,33 @@ impl Stem {
         found: Found,
         at: usize,
         path: &mut IndexPath,
-    ) -> Result<bool, AllocError>
+    ) -> Result<Option<Found>, AllocError>
         requires { IsFull (arc_value this.old).branch.spots }
         ensures done { OnOk result (stem_spots (arc_value this.new)
             ≡ insert_entry path_cmp (stem_spots (arc_value this.old)) (levels_from at found.topic) found) }
-        ensures existed { IfOk result (λ was. was ≡ is_there (levels_from at found.topic) (stem_spots (arc_value this.old))) }
+        ensures replaced { IfOk result (λ old. old ≡ found_at (levels_from at found.topic) (stem_spots (arc_value this.old))) }
         ensures refused { OnErr result (stem_spots (arc_value this.new) ≡ stem_spots (arc_value this.old)) }
     {
         if let Some(stem) = Arc::get_mut(this) {
             return stem.set_here(alloc, found, at, path);
         }
         let mut copy = this.copy(alloc)?;
-        let was = copy.set_here(alloc, found, at, path)?;
+        let old = copy.set_here(alloc, found, at, path)?;
         *this = Arc::new(alloc, copy)?;
-        Ok(was)
+        Ok(old)
     }
 }
 
 impl Branch {
-    /// Sets a message in a branch whose children are buckets, and returns whether there was one. If memory is refused, nothing
+    /// Sets a message in a branch whose children are buckets, and returns the one that it replaces. If memory is refused, nothing
     /// changes.
-    fn hold(&mut self, alloc: Global, found: Found, at: usize) -> Result<bool, AllocError>
+    fn hold(&mut self, alloc: Global, found: Found, at: usize) -> Result<Option<Found>, AllocError>
         ensures done { OnOk result (self.new.spots ≡ insert_entry path_cmp self.old.spots (levels_from at found.topic) found) }
-        ensures existed { IfOk result (λ was. was ≡ is_there (levels_from at found.topic) self.old.spots) }
+        ensures replaced { IfOk result (λ old. old ≡ found_at (levels_from at found.topic) self.old.spots) }
         ensures refused { OnErr result (self.new.spots ≡ self.old.spots) }
     {
         let Some((level, next)) = level_at(found.topic().as_bytes(), at) else {
-            let was = self.retained.is_some();
-            self.retained = Some(found);
-            return Ok(was);
+            return Ok(mem::replace(&mut self.retained, Some(found)));
         };
         match index_of(self.children.as_slice(), level) {
             Ok(i) => self.children[i].hold(alloc, found, at, next),
@@ -254,12 +258,12 @@ impl Branch {
                 let label = Label::from_topic(alloc, level, &found, at)?;
                 let child = Child::new(alloc, label, found, next)?;
                 insert_at(&mut self.children, i, child)?;
-                Ok(false)
+                Ok(None)
             }
         }
     }
 
-    /// Sets the message at the rest of its topic, and returns whether there was one. If memory is refused, nothing changes.
+    /// Sets the message at the rest of its topic, and returns the one that it replaces. If memory is refused, nothing changes.
     #[cycle(set)]
     pub(crate) fn set(
         &mut self,
@@ -267,30 +271,28 @@ impl Branch {
         found: Found,
         at: usize,
         path: &mut IndexPath,
-    ) -> Result<bool, AllocError>
+    ) -> Result<Option<Found>, AllocError>
         ensures done { OnOk result (self.new.spots ≡ insert_entry path_cmp self.old.spots (levels_from at found.topic) found) }
-        ensures existed { IfOk result (λ was. was ≡ is_there (levels_from at found.topic) self.old.spots) }
+        ensures replaced { IfOk result (λ old. old ≡ found_at (levels_from at found.topic) self.old.spots) }
         ensures refused { OnErr result (self.new.spots ≡ self.old.spots) }
     {
         let Some((level, next)) = level_at(found.topic().as_bytes(), at) else {
-            let was = self.retained.is_some();
-            self.retained = Some(found);
-            return Ok(was);
+            return Ok(mem::replace(&mut self.retained, Some(found)));
         };
         match index_along(self.children.as_slice(), level, path) {
             Ok(i) => {
-                let was = self.children[i].set(alloc, found, at, next, path)?;
-                if was {
-                    return Ok(true);
+                let old = self.children[i].set(alloc, found, at, next, path)?;
+                if old.is_some() {
+                    return Ok(old);
                 }
                 self.divide(alloc, i);
-                Ok(false)
+                Ok(old)
             }
             Err(i) => {
                 let label = Label::from_topic(alloc, level, &found, at)?;
                 let child = Child::new(alloc, label, found, next)?;
                 insert_at(&mut self.children, i, child)?;
-                Ok(false)
+                Ok(None)
             }
         }
     }
@@ -303,18 +305,18 @@ impl Branch {
         found: Found,
         at: usize,
         path: &mut IndexPath,
-    ) -> Result<bool, AllocError>
+    ) -> Result<Option<Found>, AllocError>
         ensures done { OnOk result ((arc_value this.new).spots
             ≡ insert_entry path_cmp (arc_value this.old).spots (levels_from at found.topic) found) }
-        ensures existed { IfOk result (λ was. was ≡ is_there (levels_from at found.topic) (arc_value this.old).spots) }
+        ensures replaced { IfOk result (λ old. old ≡ found_at (levels_from at found.topic) (arc_value this.old).spots) }
         ensures refused { OnErr result ((arc_value this.new).spots ≡ (arc_value this.old).spots) }
     {
         if let Some(branch) = Arc::get_mut(this) {
             return branch.set(alloc, found, at, path);
         }
         let mut copy = this.copy(alloc)?;
-        let was = copy.set(alloc, found, at, path)?;
+        let old = copy.set(alloc, found, at, path)?;
         *this = Arc::new(alloc, copy)?;
-        Ok(was)
+        Ok(old)
     }
 }

@@ -1,7 +1,7 @@
 //! Bursts: what a client sends in one piece is answered as if each packet came alone, whoever serves it.
 
 use kit_places::{
-    Counts, Course, Manner, PLAIN, Played, Script, as_wanted, ending, lanes, later, run,
+    Counts, Course, Manner, PLAIN, Played, Script, as_wanted, ending, lanes, later, run_scripts,
 };
 use kit_test::{Behavior, CONNACK, CONNECT, Call, ServeResult};
 use rs_places_pool::{NoWatch, Runner};
@@ -129,10 +129,10 @@ fn run_by<R: Threads + Wait + Copy + Send + Sync + 'static>(
 ) -> Result<Played, Fail> {
     if is_lane {
         let lane = lanes(rt, alloc, 1, Manner::InOrder)?;
-        return run(rt, alloc, (topics, 1), turns, counts, lane);
+        return run_scripts(rt, alloc, (topics, 1), turns, counts, lane);
     }
     let each = Runner::<NoWatch>::OneEach;
-    run(rt, alloc, (topics, 1), turns, counts, each)
+    run_scripts(rt, alloc, (topics, 1), turns, counts, each)
 }
 
 /// In one piece, in pieces that hold no packet whole, and in pieces that end inside packets.

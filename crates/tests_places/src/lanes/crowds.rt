@@ -3,7 +3,7 @@
 
 use kit_places::{
     Counts, Course, Manner, NONE, PLAIN, PUBLISHES, Played, Script, as_wanted, assigned, lanes,
-    later, plain_row, put_rows, run, scripts,
+    later, plain_row, put_rows, run_scripts, scripts,
 };
 use kit_test::concat;
 use rs_topic::MAX_LEVELS;
@@ -172,7 +172,7 @@ fn is_served<R: Threads + Wait + Copy + Send + Sync + 'static>(
     let counts = Arc::new(alloc, Counts::new())?;
     let turns = turns(alloc, &counts, crowd)?;
     let runner = lanes(rt, alloc, crowd.lanes, crowd.manner)?;
-    let ran = run(rt, alloc, (10_000, crowd.seats), turns, &counts, runner)?;
+    let ran = run_scripts(rt, alloc, (10_000, crowd.seats), turns, &counts, runner)?;
     Ok(ran == wanted(crowd))
 }
 
@@ -307,7 +307,7 @@ fn clients_that_wait_hold_up_nobody(rt: HostRuntime) -> Result<(), Fail> {
         turns.push(script)?;
     }
     let lane = lanes(rt, alloc, 1, Manner::InOrder)?;
-    let ran = run(rt, alloc, (10_000, 1), turns, &counts, lane)?;
+    let ran = run_scripts(rt, alloc, (10_000, 1), turns, &counts, lane)?;
     assert!(rt; ran == as_wanted(1, 63, 432, 432));
     Ok(())
 }
@@ -323,7 +323,7 @@ fn equal_publications_are_as_many_entries(rt: HostRuntime) -> Result<(), Fail> {
         put_rows(alloc, turns.as_mut_slice(), &[publishes])?;
     }
     let four = lanes(rt, alloc, 4, Manner::InOrder)?;
-    let ran = run(rt, alloc, (10, 4), turns, &counts, four)?;
+    let ran = run_scripts(rt, alloc, (10, 4), turns, &counts, four)?;
     assert!(rt; ran == as_wanted(4, 40, 40, 40));
     Ok(())
 }

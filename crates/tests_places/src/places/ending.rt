@@ -3,8 +3,8 @@
 ghost use Rattle.std.specs.Prelude.{◌≡◌};
 
 use kit_places::{
-    CLOSED, Counts, PUBLISHES, SUBSCRIBES, Script, comes, ending, later, plain_row, put_rows,
-    scripts,
+    CLOSED, Counts, PUBLISHES, SUBSCRIBES, Script, comes, ending, free_scripts, later, plain_row,
+    put_rows, scripts,
 };
 use kit_test::{SUBSCRIBED, blank_store};
 use rs_intake::{BlankQueue, Queue, blank_queue};
@@ -13,7 +13,7 @@ use rs_message::{LineCount, PlaceCount};
 use rs_places::open_gates;
 use rs_places_pool::{NoWatch, Runner};
 use rs_places_steps::run_places;
-use rs_places_turns::{PlaceEnd, Turn};
+use rs_places_turns::{FreeTurn, PlaceEnd, Turn};
 use rs_server::Served;
 use rs_version::{Blank, VersionWriter};
 use std::alloc::Global;
@@ -68,7 +68,7 @@ fn cut_off_named<
     alloc: Global,
     blank: Blank,
     queue: BlankQueue,
-    turns: Vec<T>,
+    turns: Vec<FreeTurn<T>>,
     counts: Arc<Counts>,
 ) -> Result<Cut, Fail>
 where
@@ -92,7 +92,7 @@ where
 fn cut_off<R: Threads + Wait + Copy + Send + Sync + 'static, T: Turn + Send + Drop + 'static>(
     rt: R,
     alloc: Global,
-    turns: Vec<T>,
+    turns: Vec<FreeTurn<T>>,
     counts: Arc<Counts>,
 ) -> Result<Cut, Fail>
 where
@@ -137,6 +137,7 @@ fn each_place_is_answered_if_the_queue_ends(rt: HostRuntime) -> Result<(), Fail>
     let counts = Arc::new(alloc, Counts::new())?;
     let mut turns = scripts(alloc, &counts, EARLY + 1)?;
     put_exchanges(alloc, turns.as_mut_slice())?;
+    let turns = free_scripts(alloc, turns)?;
     let cut = cut_off(rt, alloc, turns, Arc::try_clone(&counts)?)?;
     let right = counts.right.load(Ordering::SeqCst);
     let closed = counts.closed.load(Ordering::SeqCst);

@@ -12,7 +12,7 @@ use rs_intake::{BlankQueue, blank_queue};
 use rs_message::{LineCount, PlaceCount};
 use rs_places::{StoreEnd, run_store};
 use rs_places_pool::{NoWatch, Runner};
-use rs_places_turns::{Connection, EndedConnection, StoreFault, Turn};
+use rs_places_turns::{Connection, EndedConnection, FreeTurn, StoreFault, Turn};
 use rs_server::{Clock, Moments, Refusals, ServeFault, Served};
 use rs_version::{Blank, StoreName, Told};
 use std::alloc::{AllocError, Global};
@@ -133,7 +133,7 @@ fn answered<T: Turn + Send + Drop + 'static, H: Threads + Wait + Copy + Send + S
     alloc: Global,
     blank: Blank,
     queue: BlankQueue,
-    turns: Vec<T>,
+    turns: Vec<FreeTurn<T>>,
 ) -> Result<StoreEnd<T>, StoreFault>
 where
     T::In: Send + 'static,
@@ -158,12 +158,12 @@ fn played(alloc: Global, input: &[u8]) -> Result<Played, AllocError> {
 }
 
 /// A place with these connections.
-fn place_of(alloc: Global, waiting: Vec<Played>) -> Listed {
-    Listed {
+fn place_of(alloc: Global, waiting: Vec<Played>) -> FreeTurn<Listed> {
+    FreeTurn::new(Listed {
         waiting: VecDeque::from_vec(waiting),
         out: Snapshot::of(&None),
         ended: Some(Vec::new(alloc)),
-    }
+    })
 }
 
 /// Whether the client ended each connection, and was written this behind its CONNACK.
@@ -192,7 +192,7 @@ fn is_closed(outcome: &Outcome) -> bool {
 }
 
 /// A place that publishes and then reads it back, and one whose client reads what it can.
-fn known_turns(alloc: Global) -> Result<Vec<Listed>, AllocError>
+fn known_turns(alloc: Global) -> Result<Vec<FreeTurn<Listed>>, AllocError>
     ensures { IfOk result (λ turns. length turns.items ≡ 2) }
 {
     let publishes = played(alloc, PUBLISHES)?;
@@ -201,8 +201,8 @@ fn known_turns(alloc: Global) -> Result<Vec<Listed>, AllocError>
     let reads_too = played(alloc, SUBSCRIBES)?;
     let second = place_of(alloc, vec![in alloc; reads_too]?);
     let mut turns = Vec::new(alloc);
-    turns.push(first).map_err(|_| AllocError)?;
-    turns.push(second).map_err(|_| AllocError)?;
+    turns.push(first)?;
+    turns.push(second)?;
     Ok(turns)
 }
 
@@ -236,7 +236,7 @@ const FILLS: &[u8] = b"\x31\x07\x00\x03a/b\x00x\x31\x07\x00\x03a/c\x00x\x31\x07\
 \x33\x09\x00\x03a/e\x00\x01\x00x\x31\x07\x00\x03a/b\x00x\xE0\x00";
 
 /// A place whose first client sends this, and whose next one reads.
-fn filling_turn(alloc: Global) -> Result<Vec<Listed>, AllocError>
+fn filling_turn(alloc: Global) -> Result<Vec<FreeTurn<Listed>>, AllocError>
     ensures { IfOk result (λ turns. length turns.items ≡ 1) }
 {
     let sent = concat(alloc, &[CONNECT, FILLS])?;
@@ -244,7 +244,7 @@ fn filling_turn(alloc: Global) -> Result<Vec<Listed>, AllocError>
     let reads = played(alloc, SUBSCRIBES)?;
     let place = place_of(alloc, vec![in alloc; fills, reads]?);
     let mut turns = Vec::new(alloc);
-    turns.push(place).map_err(|_| AllocError)?;
+    turns.push(place)?;
     Ok(turns)
 }
 

@@ -2,7 +2,7 @@
 
 use kit_places::{
     Counts, NONE, PLAIN, PUBLISHES, Row, SUBSCRIBES, Script, as_wanted, assigned, ending, later,
-    plain_row, play, run, scripts,
+    plain_row, play, run_scripts, scripts,
 };
 use kit_test::{CONNACK, CONNECT, REPLAYED, SUBSCRIBED, concat};
 use rs_places_pool::{NoWatch, Runner};
@@ -91,7 +91,7 @@ fn the_changes_of_each_place_are_made_in_order(rt: HostRuntime) -> Result<(), Fa
     let mut turns = scripts(alloc, &counts, 64)?;
     put_all(alloc, turns.as_mut_slice())?;
     let runner = Runner::<NoWatch>::OneEach;
-    let ran = run(rt, alloc, (100, 64), turns, &counts, runner)?;
+    let ran = run_scripts(rt, alloc, (100, 64), turns, &counts, runner)?;
     assert!(rt; ran == as_wanted(64, 128, 6400, 6400));
     Ok(())
 }

@@ -8,7 +8,7 @@ use Rattle.rs_journal.proofs.reading.read_frames.Given as goal
 abbrev pub invariant-loop-len : goal.invariant-loop-len
 invariant-loop-len g l = record {
   within : l.at ≤ length l.bytes;
-  read : (operations : List Operation) × (g.S.OperationSink.taken l.sink ≡ g.S.OperationSink.taken l.fn.sink ++ operations) × All IsOperation operations × (take l.at l.bytes ≡ frames operations);
+  read : (operations : List Operation) × ((before : List Operation) → g.S.OperationSink.has_taken l.fn.sink before → g.S.OperationSink.has_taken l.sink (before ++ operations)) × All IsOperation operations × (take l.at l.bytes ≡ frames operations);
 }
 
 abbrev pub decreases-loop-len : goal.decreases-loop-len

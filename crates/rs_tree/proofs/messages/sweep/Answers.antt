@@ -1,8 +1,8 @@
-use Rattle.std.proofs.Common.{arith}
+use Rattle.std.proofs.Common.{arith, sym}
 use Rattle.rs_store.specs.Contents.{stays}
 use Rattle.rs_store.proofs.Maps.{filter_few}
 use Rattle.rs_tree_branch.specs.Spots.{pairs}
-use Rattle.rs_tree.proofs.Trees.{left_counted, pairs_swept, placed_swept}
+use Rattle.rs_tree.proofs.Trees.{left_counted, left_weighed, pairs_swept, placed_swept}
 use Rattle.rs_tree.proofs.messages.sweep.Goals as goal
 
 pub overflow_cast-result : goal.overflow_cast-result
@@ -13,8 +13,11 @@ overflow_cast-result c =
 pub returns-clause-done : goal.returns-clause-done
 returns-clause-done c = rw c.in_ok-sweep.ensures.done (pairs_swept c.args.moment c.args.root.now)
 
-pub returns-clause-counted : goal.returns-clause-counted
-returns-clause-counted c = left_counted c.args.moment c.args.root.now c.sweep.new.self c.len.result c.requires.small c.in_ok-sweep.ensures.done c.len.ensures
+pub returns-clause-totals : goal.returns-clause-totals
+returns-clause-totals c = record {
+  counted = sym (left_counted c.args.moment c.args.root.now c.sweep.new.self c.len.result c.requires.small c.in_ok-sweep.ensures.done c.len.ensures);
+  weighed = sym (left_weighed c.args.moment c.args.root.now c.sweep.new.self c.add_bytes.new.bytes c.requires.light c.in_ok-sweep.ensures.done c.add_bytes.ensures);
+}
 
 pub returns-clause-placed : goal.returns-clause-placed
 returns-clause-placed c = rw c.in_ok-sweep.ensures.done (placed_swept c.args.moment c.args.root.now c.requires.placed)

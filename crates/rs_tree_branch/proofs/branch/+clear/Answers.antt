@@ -1,4 +1,4 @@
-use Rattle.std.proofs.Common.{◌≡◌, ◌+◌, ◌<◌, ◌≤◌, ◌∷◌, ◌++◌, List, arith, length, refl, subst, sym, ap, ◌∙◌, Some, None}
+use Rattle.std.proofs.Common.{◌≡◌, ◌+◌, ◌<◌, ◌≤◌, ◌∷◌, ◌++◌, List, arith, length, refl, subst, sym, ap, ◌∙◌, Some, None, is_some}
 use Rattle.std.proofs.Math.ListN.{length-set}
 use Rattle.rs_tree_bucket.specs.Chains.{behind, under_all}
 use Rattle.rs_topic.specs.Rests.{levels_from}
@@ -10,7 +10,7 @@ use Rattle.rs_tree_branch.specs.Chunks.{IsGap, IsIn, depth, parts}
 use Rattle.rs_tree_branch.specs.Values.{BranchValue, ChildValue}
 use Rattle.rs_tree_branch.proofs.Clearing.{chunk_cleared, chunk_removed, chunk_unchanged, clears_chain, clears_child, clears_last, clears_left, clears_level, clears_missing, clears_none, clears_same, remove_set}
 use Rattle.rs_tree_bucket.proofs.Spots.{Spots}
-use Rattle.rs_tree_branch.proofs.Chunks.{deep_child, leads_child, there_gap}
+use Rattle.rs_tree_branch.proofs.Chunks.{deep_child, leads_child, found_gap}
 use Rattle.rs_tree_bucket.specs.declared.cleared.Cleared.TheVariants.{Last, Left, Missing}
 use Rattle.rs_tree_branch.proofs.branch.+clear.Goals as goal
 
@@ -67,7 +67,7 @@ pub Branch::clear-returns-in_default-index_of : goal.Branch::clear-returns-in_de
 Branch::clear-returns-in_default-index_of t c =
     let es = c.self.inside.children.items in
     let here : IsGap c.in-Some.level.now es c.in_default-index_of.field-0 = rw c.as_slice.ensures.value at c.in_default-index_of.ensures.found in
-    rw (c.in-Some.ensures.more, ← c.self.view_is) (there_gap c.self.inside.retained es c.self.invariant c.in-Some.level.now (levels_from c.in-Some.next c.args.topic.now) c.in_default-index_of.field-0 here, refl)
+    rw (c.in-Some.ensures.more, ← c.self.view_is) (ap is_some (found_gap c.self.inside.retained es c.self.invariant c.in-Some.level.now (levels_from c.in-Some.next c.args.topic.now) c.in_default-index_of.field-0 here), refl)
 
 pub Branch::clear-invariant_of-self : goal.Branch::clear-invariant_of-self
 Branch::clear-invariant_of-self t c =

@@ -1,5 +1,5 @@
 use Rattle.std.proofs.Common.{ℕ, List, sym, subst}
-use Rattle.rs_journal_pages.specs.Streams.{Holds}
+use Rattle.rs_journal.specs.Streams.{Holds}
 use Rattle.rs_journal.specs.Frames.{frames}
 use Rattle.rs_journal.proofs.FrameLemmas.{frames_none}
 use Rattle.rs_journal.proofs.journal.Journal.begin_anew.Goals as goal
@@ -18,3 +18,9 @@ returns-in-Ok-clause-crash g c = c.begin_anew.ensures.crash
 
 pub returns-in-Err-clause-crash : goal.returns-in-Err-clause-crash
 returns-in-Err-clause-crash g c = c.begin_anew.ensures.crash
+
+pub returns-in-Ok-clause-closed : goal.returns-in-Ok-clause-closed
+returns-in-Ok-clause-closed g c = c.begin_anew.ensures.closed
+
+pub returns-in-Err-clause-closed : goal.returns-in-Err-clause-closed
+returns-in-Err-clause-closed g c = c.begin_anew.ensures.closed

@@ -9,3 +9,12 @@ returns-clause-rests g c = λ standing rests. c.checkpoint.ensures.rests (frames
 
 pub returns-clause-crash : goal.returns-clause-crash
 returns-clause-crash g c = c.checkpoint.ensures.crash
+
+pub returns-clause-copied : goal.returns-clause-copied
+returns-clause-copied g c = c.checkpoint.ensures.copied
+
+pub returns-clause-open : goal.returns-clause-open
+returns-clause-open g c = c.checkpoint.ensures.open
+
+pub returns-clause-closed : goal.returns-clause-closed
+returns-clause-closed g c = c.checkpoint.ensures.closed

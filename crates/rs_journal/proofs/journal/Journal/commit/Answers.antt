@@ -1,3 +1,5 @@
+use Rattle.std.proofs.Common.{inl}
+use Rattle.rs_journal.proofs.StandsLemmas.{leaves_of, stands_if_rests, stands_of}
 use Rattle.rs_journal.specs.Frames.{frames}
 use Rattle.rs_journal.proofs.journal.Journal.commit.Goals as goal
 
@@ -8,7 +10,7 @@ pub returns-in-Ok-clause-crash : goal.returns-in-Ok-clause-crash
 returns-in-Ok-clause-crash g c = λ standing seen holds. c.commit.ensures.crash (frames standing) (frames seen) holds
 
 pub returns-then-is_open-clause-refused : goal.returns-then-is_open-clause-refused
-returns-then-is_open-clause-refused g c = λ _ standing seen holds. c.in-Err.ensures.refused (c.is_open.ensures.0 c.if-is_open.true) (frames standing) (frames seen) holds
+returns-then-is_open-clause-refused g c = λ _ standing seen holds. c.in-Err.ensures.refused (c.is_open-in-Err.ensures.0 c.if-is_open.true) (frames standing) (frames seen) holds
 
 pub returns-then-is_open-clause-crash : goal.returns-then-is_open-clause-crash
 returns-then-is_open-clause-crash g c = λ standing seen holds. c.commit.ensures.crash (frames standing) (frames seen) holds
@@ -27,3 +29,26 @@ returns-then-is_open-clause-closed g c = c.commit.ensures.closed
 
 pub returns-else-is_open-clause-closed : goal.returns-else-is_open-clause-closed
 returns-else-is_open-clause-closed g c = c.commit.ensures.closed
+
+pub returns-else-is_open-clause-doubtful : goal.returns-else-is_open-clause-doubtful
+returns-else-is_open-clause-doubtful g c = λ _. (c.is_open.ensures.0 c.if-not-is_open.false, λ ready. absurd (cc (c.if-is_open.false, c.is_open-in-Err.ensures.1 ready)))
+
+pub returns-in-Ok-clause-answer : goal.returns-in-Ok-clause-answer
+returns-in-Ok-clause-answer g c = λ shut. absurd (shut c.in-Ok.ensures.open)
+
+pub returns-then-is_open-clause-answer : goal.returns-then-is_open-clause-answer
+returns-then-is_open-clause-answer g c = λ shut. absurd (shut (c.is_open.ensures.0 c.if-not-is_open.false))
+
+pub returns-else-is_open-clause-answer : goal.returns-else-is_open-clause-answer
+returns-else-is_open-clause-answer g c = λ shut. absurd (shut (c.is_open.ensures.0 c.if-not-is_open.false))
+
+pub returns-then-not-is_open-clause-refused : goal.returns-then-not-is_open-clause-refused
+returns-then-not-is_open-clause-refused g c = λ _ standing seen holds. c.rollback.ensures.rests (frames standing) (stands_of _ (frames standing) (frames seen) holds)
+
+pub returns-then-not-is_open-clause-closed : goal.returns-then-not-is_open-clause-closed
+returns-then-not-is_open-clause-closed g c = c.rollback.ensures.closed
+
+pub returns-then-not-is_open-clause-crash : goal.returns-then-not-is_open-clause-crash
+returns-then-not-is_open-clause-crash g c = λ standing seen holds left may.
+    let it = c.rollback.new.self in
+    inl (leaves_of it (frames standing) (stands_if_rests it (frames standing) (c.rollback.ensures.rests (frames standing) (stands_of _ (frames standing) (frames seen) holds))) left may)

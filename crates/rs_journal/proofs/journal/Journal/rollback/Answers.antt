@@ -1,4 +1,4 @@
-use Rattle.rs_journal_pages.proofs.StandsLemmas.{stands_of}
+use Rattle.rs_journal.proofs.StandsLemmas.{stands_of}
 use Rattle.rs_journal.specs.Frames.{frames}
 use Rattle.rs_journal.proofs.journal.Journal.rollback.Goals as goal
 
@@ -7,3 +7,6 @@ returns-clause-rests g c = λ standing seen holds. c.rollback.ensures.rests (fra
 
 pub returns-clause-crash : goal.returns-clause-crash
 returns-clause-crash g c = c.rollback.ensures.crash
+
+pub returns-clause-closed : goal.returns-clause-closed
+returns-clause-closed g c = c.rollback.ensures.closed

@@ -10,4 +10,4 @@ invariant_of-result g c =
     let now = place_at (g.T.Turn.connections c.args.turn) (g.G.StoreGate.shared c.args.gate) in
     let P : Place → Type 0 = λ begun. ServedSoFar limit begun 1 now in
     let is = same_place g.T.Turn.connections g.G.StoreGate.shared _ _ _ _ c.new-begun.ensures.turn c.new-begun.ensures.gate in
-    subst P (sym is) (served_none limit now c.requires)
+    subst P (sym is) (served_none limit now c.requires.free c.requires.pending)

@@ -26,3 +26,6 @@ invariant_of-result-in-Err g c =
     law.known law.same_mark law.same_pending (place_of connections g.G.StoreGate.shared c.self.inside.begun) c.self.inside.number
     c.self.inside.gate (connections c.self.inside.turn) (connections c.next.new.self) given.input given.output c.new-input.result c.new-output.result c.new.result c.in-Err.gate
     c.self.invariant c.in-Some.ensures c.new-input.ensures.inner c.new-output.ensures.inner c.new.ensures.gate c.in-Err.ensures.refused c.told-told-2.ensures.legal c.new-input.ensures.failures c.new-output.ensures.failures
+
+pub next-requires : goal.next-requires
+next-requires g c = c.self.invariant.out

@@ -5,7 +5,7 @@ use Rattle.clap.specs.Simple.{app_of_fields}
 use Rattle.clap.specs.declared.builder.command.Command.{Command}
 use Rattle.clap.specs.declared.builder.command.Command.TheOpen.{Command-F}
 use Rattle.clap.specs.declared.builder.command.Command.TheViews.{out-Command}
-use Rattle.rs_program.specs.CommandLine.{address_option, places_option, clients_option, topics_option, connections_option, endless_option, idle_option}
+use Rattle.rs_program.specs.CommandLine.{address_option, places_option, clients_option, topics_option, memory_option, connections_option, endless_option, idle_option, log_option}
 use Rattle.rs_program.proofs.words.commands.listen_command.Goals as goal
 
 pub returns-clause-shape : goal.returns-clause-shape
@@ -19,13 +19,17 @@ returns-clause-shape c =
     let third : app_of c.in_ok-arg-3.field-0 ≡ with_third = c.in_ok-arg-3.ensures.shape c.clients_option.ensures.local ∙ ap₂ with_rule second c.clients_option.ensures.rule in
     let with_fourth : App = with_rule with_third topics_option in
     let fourth : app_of c.in_ok-arg-4.field-0 ≡ with_fourth = c.in_ok-arg-4.ensures.shape c.topics_option.ensures.local ∙ ap₂ with_rule third c.topics_option.ensures.rule in
-    let with_fifth : App = with_rule with_fourth connections_option in
-    let fifth : app_of c.in_ok-arg-5.field-0 ≡ with_fifth = c.in_ok-arg-5.ensures.shape c.connections_option.ensures.local ∙ ap₂ with_rule fourth c.connections_option.ensures.rule in
-    let with_sixth : App = with_rule with_fifth endless_option in
-    let sixth : app_of c.in_ok-arg-6.field-0 ≡ with_sixth = c.in_ok-arg-6.ensures.shape c.endless_option.ensures.local ∙ ap₂ with_rule fifth c.endless_option.ensures.rule in
-    let with_seventh : App = with_rule with_sixth idle_option in
-    let seventh : app_of c.in_ok-arg-7.field-0 ≡ with_seventh = c.in_ok-arg-7.ensures.shape c.idle_option.ensures.local ∙ ap₂ with_rule sixth c.idle_option.ensures.rule in
-    IfOk-weaker c.arg-8.result _ _ (λ r h. h.shape c.log_option.ensures.local ∙ ap₂ with_rule seventh c.log_option.ensures.rule) c.arg-8.ensures
+    let with_fifth : App = with_rule with_fourth memory_option in
+    let fifth : app_of c.in_ok-arg-5.field-0 ≡ with_fifth = c.in_ok-arg-5.ensures.shape c.memory_option.ensures.local ∙ ap₂ with_rule fourth c.memory_option.ensures.rule in
+    let with_sixth : App = with_rule with_fifth connections_option in
+    let sixth : app_of c.in_ok-arg-6.field-0 ≡ with_sixth = c.in_ok-arg-6.ensures.shape c.connections_option.ensures.local ∙ ap₂ with_rule fifth c.connections_option.ensures.rule in
+    let with_seventh : App = with_rule with_sixth endless_option in
+    let seventh : app_of c.in_ok-arg-7.field-0 ≡ with_seventh = c.in_ok-arg-7.ensures.shape c.endless_option.ensures.local ∙ ap₂ with_rule sixth c.endless_option.ensures.rule in
+    let with_eighth : App = with_rule with_seventh idle_option in
+    let eighth : app_of c.in_ok-arg-8.field-0 ≡ with_eighth = c.in_ok-arg-8.ensures.shape c.idle_option.ensures.local ∙ ap₂ with_rule seventh c.idle_option.ensures.rule in
+    let with_ninth : App = with_rule with_eighth log_option in
+    let ninth : app_of c.in_ok-arg-9.field-0 ≡ with_ninth = c.in_ok-arg-9.ensures.shape c.log_option.ensures.local ∙ ap₂ with_rule eighth c.log_option.ensures.rule in
+    IfOk-weaker c.arg-10.result _ _ (λ r h. h.shape c.metrics_option.ensures.local ∙ ap₂ with_rule ninth c.metrics_option.ensures.rule) c.arg-10.ensures
 
 pub returns-clause-local : goal.returns-clause-local
 returns-clause-local c =
@@ -34,7 +38,9 @@ returns-clause-local c =
     let second : (out-Command c.in_ok-arg-2.field-0).has_globals ≡ false = c.in_ok-arg-2.ensures.globals ∙ (rw (first, c.places_option.ensures.local) refl) in
     let third : (out-Command c.in_ok-arg-3.field-0).has_globals ≡ false = c.in_ok-arg-3.ensures.globals ∙ (rw (second, c.clients_option.ensures.local) refl) in
     let fourth : (out-Command c.in_ok-arg-4.field-0).has_globals ≡ false = c.in_ok-arg-4.ensures.globals ∙ (rw (third, c.topics_option.ensures.local) refl) in
-    let fifth : (out-Command c.in_ok-arg-5.field-0).has_globals ≡ false = c.in_ok-arg-5.ensures.globals ∙ (rw (fourth, c.connections_option.ensures.local) refl) in
-    let sixth : (out-Command c.in_ok-arg-6.field-0).has_globals ≡ false = c.in_ok-arg-6.ensures.globals ∙ (rw (fifth, c.endless_option.ensures.local) refl) in
-    let seventh : (out-Command c.in_ok-arg-7.field-0).has_globals ≡ false = c.in_ok-arg-7.ensures.globals ∙ (rw (sixth, c.idle_option.ensures.local) refl) in
-    IfOk-weaker c.arg-8.result _ _ (λ r h. h.globals ∙ (rw (seventh, c.log_option.ensures.local) refl)) c.arg-8.ensures
+    let fifth : (out-Command c.in_ok-arg-5.field-0).has_globals ≡ false = c.in_ok-arg-5.ensures.globals ∙ (rw (fourth, c.memory_option.ensures.local) refl) in
+    let sixth : (out-Command c.in_ok-arg-6.field-0).has_globals ≡ false = c.in_ok-arg-6.ensures.globals ∙ (rw (fifth, c.connections_option.ensures.local) refl) in
+    let seventh : (out-Command c.in_ok-arg-7.field-0).has_globals ≡ false = c.in_ok-arg-7.ensures.globals ∙ (rw (sixth, c.endless_option.ensures.local) refl) in
+    let eighth : (out-Command c.in_ok-arg-8.field-0).has_globals ≡ false = c.in_ok-arg-8.ensures.globals ∙ (rw (seventh, c.idle_option.ensures.local) refl) in
+    let ninth : (out-Command c.in_ok-arg-9.field-0).has_globals ≡ false = c.in_ok-arg-9.ensures.globals ∙ (rw (eighth, c.log_option.ensures.local) refl) in
+    IfOk-weaker c.arg-10.result _ _ (λ r h. h.globals ∙ (rw (ninth, c.metrics_option.ensures.local) refl)) c.arg-10.ensures

@@ -1,5 +1,5 @@
-use Rattle.std.proofs.Common.{rules, ◌≡◌, ℕ, List, ap}
-use Rattle.rs_store.specs.Ledgers.{LedgerValue, unused}
+use Rattle.std.proofs.Common.{ℕ, List, ap}
+use Rattle.rs_store.specs.Ledgers.{LedgerValue}
 use Rattle.rs_store.proofs.ledger.Ledger.new.Goals as goal
 
 pub returns : goal.returns

@@ -8,6 +8,6 @@ use Rattle.rs_tree.proofs.messages.TreeMessagesMessages.answer.Goals as goal
 pub returns-in-None : goal.returns-in-None
 returns-in-None c =
     let retained = pairs c.self.inside.root in
-    let few : length retained ≤ c.self.inside.count = omega (arith, c.self.invariant.counted) in
-    let none : None ≡ if_fits c.self.inside.count (map found_of (filter (is_answered c.args.filter.now c.args.now) retained)) = rw c.in-None.is at c.in_ok-found.ensures in
-    absurd (always_fits c.self.inside.count c.args.filter.now c.args.now retained few none)
+    let few : length retained ≤ c.self.inside.totals.count = omega (arith, c.self.invariant.totals_are.counted) in
+    let none : None ≡ if_fits c.self.inside.totals.count (map found_of (filter (is_answered c.args.filter.now c.args.now) retained)) = rw c.in-None.is at c.in_ok-found.ensures in
+    absurd (always_fits c.self.inside.totals.count c.args.filter.now c.args.now retained few none)

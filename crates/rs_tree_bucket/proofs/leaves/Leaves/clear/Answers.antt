@@ -1,4 +1,4 @@
-use Rattle.std.proofs.Common.{◌∙◌, ap}
+use Rattle.std.proofs.Common.{◌∙◌, ap, is_some}
 use Rattle.std.specs.BTreeMap.{is_at}
 use Rattle.std.specs.Map.{remove_entry}
 use Rattle.rs_topic.specs.Order.{path_cmp}
@@ -25,4 +25,4 @@ pub returns-in-Err-clause-done : goal.returns-in-Err-clause-done
 returns-in-Err-clause-done c = unchanged_is c.args.at c.in-Err.field-0 c.args.topic.now c.as_slice.result.now c.self.inside.leaves.items c.as_slice.ensures.value c.args.self.now c.self.view_is c.self.invariant c.in-Err.ensures.found
 
 pub returns-in-Err-clause-existed : goal.returns-in-Err-clause-existed
-returns-in-Err-clause-existed c = none_is c.args.at c.in-Err.field-0 c.args.topic.now c.as_slice.result.now c.self.inside.leaves.items c.as_slice.ensures.value c.args.self.now c.self.view_is c.self.invariant c.in-Err.ensures.found
+returns-in-Err-clause-existed c = ap is_some (none_is c.args.at c.in-Err.field-0 c.args.topic.now c.as_slice.result.now c.self.inside.leaves.items c.as_slice.ensures.value c.args.self.now c.self.view_is c.self.invariant c.in-Err.ensures.found)

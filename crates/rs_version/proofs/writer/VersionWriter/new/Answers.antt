@@ -1,5 +1,6 @@
-use Rattle.std.proofs.Common.{ap, sym, ◌∙◌}
+use Rattle.std.proofs.Common.{ap, sym, ◌∙◌, arith}
 use Rattle.std.proofs.lemmas.List.{append-nil}
+use Rattle.rs_store.proofs.Bytes.{bytes_none}
 use Rattle.rs_store.proofs.Standing.{stands_empty}
 use Rattle.rs_version.proofs.writer.VersionWriter.new.Goals as goal
 
@@ -15,4 +16,5 @@ invariant_of-result g c =
       list_is = h.1 ∙ (sym h.2 ∙ sym (append-nil log));
       calm_is = rw k (c.new.ensures g.N.StoreName.limit);
       steps = append-nil _ ∙ c.requires.steps;
+      small = rw k (omega (arith, bytes_none));
     }

@@ -1,0 +1,191 @@
+"""Keeps messages in the real files of a journal, and looks at what an opening finds.
+
+The program check_journal opens and keeps, and answers with what it finds. The files lie in memory
+where the system has a folder for that, since each opening syncs them.
+"""
+
+import contextlib
+import fcntl
+import os
+import struct
+import sys
+import tempfile
+from pathlib import Path
+
+from harness.journal import FILES, Shell, numbered, set_record
+from harness.words import run_named
+
+# The folder whose files lie in memory, or the usual one.
+MEMORY = Path("/dev/shm")
+FOLDER = MEMORY if MEMORY.is_dir() else None
+# As many topics as a store may have, and how many messages a commit has.
+TOPICS, CHANGES = 65_536, 64
+# The bytes of the longest topic, and of the longest payload beside the length of no properties.
+LONGEST_TOPIC, LONGEST_PAYLOAD = 65_535, 262_143
+# A page of the log, and what stands before the first: of a commit of one page each byte is changed.
+FRAME = 24 + 1024
+# A lock of all of a file for writing, which lasts until the file is closed.
+LOCK = struct.pack("hhqqi4x", fcntl.F_WRLCK, os.SEEK_SET, 0, 0, 0)
+# What lets root write where it has no permission, and is taken from it.
+POWERLESS = ["setpriv", "--bounding-set=-dac_override"]
+
+
+@contextlib.contextmanager
+def shell():
+    """The program in a folder of its own, and the folder."""
+    with tempfile.TemporaryDirectory(dir=FOLDER) as folder, Shell(folder) as opened:
+        yield opened, Path(folder)
+
+
+def bytes_in(folder):
+    """The bytes of each file, by its name."""
+    return {path.name: path.read_bytes() for path in Path(folder).iterdir()}
+
+
+class Damage:
+    """Two commits of one message each, and how many of them are found once files were changed."""
+
+    def __init__(self, journal, folder):
+        self.journal, self.folder = journal, folder
+        first, second = numbered(0, 700), numbered(1, 700)
+        self.prefixes = [b"", first, first + second]
+        journal.do("open")
+        for record in (first, second):
+            journal.push(record)
+            journal.do("commit")
+        self.pages, self.log = (bytes_in(folder)[name] for name in FILES)
+
+    def commits(self, log, what):
+        """How many commits are found if the log has these bytes."""
+        self.journal.do("close")
+        for name, data in zip(FILES, (self.pages, log)):
+            (self.folder / name).write_bytes(data)
+        found = self.journal.found()
+        if found not in self.prefixes:
+            sys.exit(f"{what}: {found.hex()} found, which are not whole commits")
+        return self.prefixes.index(found)
+
+    def lengths(self):
+        """At how many lengths of the log no commit is found, and one, and the first lengths at
+        which one and both are: behind that the log has room, and nothing else."""
+        counts, before, first = [0, 0], 0, 0
+        for length in range(len(self.log)):
+            found = self.commits(self.log[:length], f"{length} bytes of the log")
+            if found < before:
+                sys.exit(f"{length} bytes of the log: {found} commits, and {before} before")
+            if found == 2:
+                return counts, first, length
+            if found > before:
+                first = length
+            before = found
+            counts[found] += 1
+        sys.exit("no length of the log has both commits")
+
+    def changes(self, start, end):
+        """After how many changes of one of these bytes no commit is found, one, and both."""
+        counts = [0, 0, 0]
+        for at in range(start, end):
+            changed = bytearray(self.log)
+            changed[at] ^= 0x5A
+            counts[self.commits(changed, f"byte {at} of the log")] += 1
+        return counts
+
+
+def damage():
+    """With each length of the log, whole commits are found, and no fewer with a longer one. With a
+    byte of the last commit changed, all before it is found."""
+    with shell() as (journal, folder):
+        files = Damage(journal, folder)
+        cut, first, both = files.lengths()
+        changed = files.changes(first, both)
+    if 0 in cut:
+        sys.exit(f"a log that is cut off: none and one of two commits {cut} times")
+    if changed[0] != 0 or changed[2] != 0 or changed[1] < FRAME:
+        sys.exit(f"a byte of the last commit: none, one and both of two commits {changed} times")
+    print(f"a log cut off at {sum(cut)} lengths, and {changed[1]} bytes changed: whole commits")
+
+
+def pages_of(journal, records, is_often):
+    """Pushes records, commits often or once behind them all, opens the files anew and looks at what
+    is found. The pages that they take."""
+    for at in range(0, len(records), CHANGES):
+        journal.push(b"".join(records[at : at + CHANGES]))
+        if is_often:
+            journal.do("commit")
+    journal.do("commit")
+    pages = int(journal.do("pages"))
+    journal.do("checkpoint")
+    if journal.found() != b"".join(records):
+        sys.exit(f"{len(records)} messages were pushed, and others are found")
+    return pages
+
+
+def many():
+    """Messages of all topics with all properties, the longest topic and the longest payload are
+    found again, as they were pushed by many commits, and by one that began anew."""
+    records = [numbered(number, 100) for number in range(TOPICS)]
+    records.append(set_record(b"t" * LONGEST_TOPIC, 1))
+    records.append(set_record(b"ttt", LONGEST_PAYLOAD))
+    with shell() as (journal, _):
+        journal.do("open")
+        often = pages_of(journal, records, is_often=True)
+        journal.do("anew")
+        once = pages_of(journal, records, is_often=False)
+    if once >= often:
+        sys.exit(f"{once} pages of one commit, and {often} of many")
+    print(f"{TOPICS:,} topics with all properties: {often} pages by many commits, {once} by one")
+
+
+def refused(folder, text, before=()):
+    """An opening is refused for this reason, and leaves each file as it is."""
+    kept = bytes_in(folder)
+    with Shell(folder, before) as journal:
+        is_done, reason = journal.ask("open")
+    if is_done or text not in reason:
+        sys.exit(f"an opening is not refused for {text}: {reason[:80]}")
+    if bytes_in(folder) != kept:
+        sys.exit(f"{text}: {sorted(kept)} before, {sorted(bytes_in(folder))} after")
+
+
+def keep_some(folder):
+    """Keeps a message in files of this folder."""
+    with Shell(folder) as journal:
+        journal.do("open")
+        journal.push(numbered(0, 100))
+        journal.do("commit")
+        journal.do("checkpoint")
+
+
+def held():
+    """Files that another process has are not opened."""
+    with tempfile.TemporaryDirectory(dir=FOLDER) as folder:
+        keep_some(folder)
+        for name in FILES:
+            with open(f"{folder}/{name}", "r+b") as file:
+                fcntl.fcntl(file, fcntl.F_OFD_SETLK, LOCK)
+                refused(folder, "Busy")
+    print("files of which another process has one: refused")
+
+
+def read_only():
+    """In a folder where nothing can be made, and over files that cannot be written, nothing is
+    opened."""
+    before = POWERLESS if os.geteuid() == 0 else []
+    with tempfile.TemporaryDirectory(dir=FOLDER) as folder:
+        os.chmod(folder, 0o500)
+        refused(folder, "PermissionDenied", before)
+        os.chmod(folder, 0o700)
+        keep_some(folder)
+        for name in FILES:
+            os.chmod(f"{folder}/{name}", 0o400)
+            refused(folder, "PermissionDenied", before)
+            os.chmod(f"{folder}/{name}", 0o600)
+    print("a folder and files that can only be read: refused")
+
+
+def main():
+    run_named((damage, many, held, read_only))
+
+
+if __name__ == "__main__":
+    main()

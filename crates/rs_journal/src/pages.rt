@@ -1,0 +1,10 @@
+//! A stream of bytes in two files, in pages: what is pushed becomes durable by a commit, all or none.
+
+mod extent;
+mod fault;
+mod form;
+mod opening;
+mod stream;
+
+pub use fault::OpenFault;
+pub(crate) use stream::PageStream;

@@ -1,6 +1,0 @@
-pub mod FormLemmas
-pub mod ListLemmas
-pub mod StreamLemmas
-pub mod StandsLemmas
-pub mod OpenLemmas
-pub mod CrashLemmas

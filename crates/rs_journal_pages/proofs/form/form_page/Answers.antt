@@ -1,9 +1,0 @@
-use Rattle.std.proofs.Common.{arith}
-use Rattle.rs_journal_pages.proofs.FormLemmas.{page_is}
-use Rattle.rs_journal_pages.proofs.form.form_page.Goals as goal
-
-pub returns-clause-form : goal.returns-clause-form
-returns-clause-form c =
-    page_is _ _ _ _ _ _ _ _ _ _ c.clear.ensures.items c.in_ok-extend_from_slice.ensures.items c.in_ok-extend_from_slice-2.ensures.items c.in_ok-extend_from_slice-3.ensures.items
-    (omega (arith, c.clear.ensures.len, c.in_ok-extend_from_slice.ensures.len, c.in_ok-extend_from_slice-2.ensures.len, c.in_ok-extend_from_slice-3.ensures.len))
-    c.in_ok-resize.ensures.items c.to_be_bytes.ensures c.to_be_bytes-2.ensures c.requires

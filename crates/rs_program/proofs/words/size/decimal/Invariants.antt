@@ -1,0 +1,6 @@
+use Rattle.std.proofs.Common.{◌≡◌, ◌<◌, ◌^◌, take}
+use Rattle.std.specs.Str.Parse.{AllDigits, digits_value}
+use Rattle.rs_program.proofs.words.size.decimal.Given as goal
+
+abbrev pub invariant-loop-digit : goal.invariant-loop-digit
+invariant-loop-digit l = record { are_digits : AllDigits 10 (take l.digit-index l.digits); value : l.number ≡ digits_value 10 (take l.digit-index l.digits); small : l.number < 2 ^ 64 }

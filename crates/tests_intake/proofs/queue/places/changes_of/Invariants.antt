@@ -1,7 +1,0 @@
-use Rattle.std.proofs.Common.{◌≡◌, All, false}
-use Rattle.rs_message.specs.Messages.{is_sweep}
-use Rattle.tests_intake.proofs.queue.places.changes_of.Given as goal
-
--- none of the changes so far is a Sweep
-abbrev pub invariant-loop-step : goal.invariant-loop-step
-invariant-loop-step l = All (λ o. is_sweep o ≡ false) l.changes.items
