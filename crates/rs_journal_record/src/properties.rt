@@ -105,6 +105,7 @@ pub(crate) fn put_properties(out: &mut Vec<u8>, properties: &Properties) -> Resu
 {
     match properties.fields() {
         Some(fields) => put_fields(out, fields)?,
+        // Four fields that are absent, and the number of user properties, four bytes.
         None => out.extend_from_slice(&[0, 0, 0, 0, 0, 0, 0, 0])?,
     }
     Ok(())

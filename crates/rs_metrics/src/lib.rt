@@ -2,7 +2,7 @@
 //!
 //! [`Metrics`] is shared by an `Arc`. Whoever serves a line counts by a [`Meter`], whose methods each add to a number of the line's shard; the
 //! writer of the store sets by a [`WriterMeter`] what only it knows. Both count for nobody if there are no metrics. Nobody waits for anybody,
-//! and nothing is allocated after [`Metrics::new`].
+//! and after [`Metrics::new`] only [`write_text`] allocates.
 //!
 //! [`Metrics::snapshot`] sums all shards up, and [`write_text`] writes a [`Snapshot`] in Prometheus' text format 0.0.4: the contract says exactly
 //! which text that is, for any table of families. That of a server is [`FAMILIES`]. [`resident_pages`] reads what the system tells of the memory

@@ -182,8 +182,8 @@ impl<N: LineName, R: Wait + Copy> Gate for SharedGate<N, R> {
     }
 
     /// The line sends the changes at once, if nothing is ahead of it, so that the writer works on them while the client's thread goes on. The
-    /// packet of each lies whole in the buffer, so it is submitted, unless the session ends before: no clause says so, the code is made so.
-    /// If the session ends, it may be an entry, as any publication that was not acknowledged.
+    /// packet of each lies whole in the buffer, so its change is submitted, unless the session ends first. No clause says so. A change that
+    /// is not submitted may be an entry, like any publication that was not acknowledged.
     fn expect(&mut self, changes: Vec<Operation>) {
         self.line.expect(&self.rt, changes);
     }

@@ -153,7 +153,7 @@ fn start_writer<
 ///
 /// # Errors
 ///
-/// [`StoreFault`]. No connection was served then, as the code is made; no clause says so.
+/// [`StoreFault`]. Then no connection was served, but no clause says so.
 pub fn run_store<
     T: Turn + Send + Drop + 'static,
     H: Threads + Wait + Copy + Send + Sync + 'static,

@@ -23,7 +23,7 @@ pub(crate) struct Lane {
 pub(crate) struct Progress {
     /// Whether some clients waited to be read or to be served then, and none of them was taken since.
     pub(crate) is_left: bool,
-    /// Whether no client was served since then.
+    /// Whether a client was served since then.
     pub(crate) has_served: bool,
     /// Whether one of them waits for clients.
     pub(crate) is_watched: bool,

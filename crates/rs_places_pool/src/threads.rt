@@ -11,10 +11,11 @@ use std::thread::{Builder, JoinHandle, Parker, Threads};
 use std::time::Duration;
 
 /// The stack of a thread, in bytes. A connection needs far less, also at topics and filters of as many levels as there may be. The
-/// default is 8 MiB of address space for each thread, of which there are as many as clients if each is held up.
+/// default is 8 MiB of address space for each thread, of which there are as many as clients if each is held up. What docs/RUNNING.md says
+/// that a place and a further thread take follows from this.
 const LANE_STACK: usize = 256 * 1024;
 
-/// How often the threads of each lane are looked at, in milliseconds.
+/// How often the threads of each lane are looked at, in milliseconds. Help comes after two looks at the latest, as docs/RUNNING.md says.
 const LOOK: u64 = 20;
 
 /// How many threads a lane needs more, of which so many of these sleep and the others are held up: until as many sleep as are held up, but no

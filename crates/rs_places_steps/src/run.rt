@@ -62,6 +62,7 @@ fn wait_end<T: Turn + Drop, G: LineGate + Drop, H: Wait>(
         (left_at (T.connections result.turn) result.told (G.closed result.line)) }
 {
     let mut end = end;
+    // For the proof: the runner returns once all clients are done, so the first round takes the end, but no contract says so.
     for _ in rt.forever() {
         if let Some(done) = end.take() {
             return done.into_end();
@@ -134,8 +135,8 @@ where
 ///
 /// # Errors
 ///
-/// [`StoreFault`]: out of memory, or no thread can be started for the clients. No client was served then, as the code is made, and all turns
-/// and gates are dropped; no clause says so.
+/// [`StoreFault`]: out of memory, or no thread can be started for the clients. Then no client was served, and all turns and gates are
+/// dropped, but no clause says so.
 pub fn run_places<
     T: Turn + Send + Drop + 'static,
     G: LineGate + Send + Drop + 'static,

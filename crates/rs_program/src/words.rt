@@ -121,6 +121,7 @@ pub(crate) fn refused(alloc: Global, text: &str) -> WordsFault {
     }
 }
 
+/// What is shown for an error of `clap`, which is also how it answers a request for help.
 fn fault_of(alloc: Global, error: clap::Error) -> WordsFault {
     if error.kind() == ErrorKind::OutOfMemory {
         return WordsFault::NoMemory;

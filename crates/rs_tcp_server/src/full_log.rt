@@ -16,7 +16,7 @@ pub struct FullLog {
 }
 
 impl FullLog {
-    /// The log was told nothing.
+    /// No line was written yet.
     pub fn new(fullness: Arc<Fullness>) -> FullLog {
         FullLog {
             fullness,

@@ -1,4 +1,4 @@
-//! What each client gets.
+//! The turns of all clients.
 
 ghost use Rattle.std.specs.Prelude.{◌≡◌, IfOk, length};
 

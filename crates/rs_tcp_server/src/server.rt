@@ -78,13 +78,14 @@ pub struct Summary {
 }
 
 impl Server {
-    /// Binds an address: a host's name, an IPv4 or an IPv6 address, and a port, as `localhost:1883` or `[::1]:1883`. Port 0 takes one
-    /// that is free. It will accept `connections` connections, none if that is 0, and serve `clients` clients at the same time, but at
-    /// least as many as there are `places`, and at most [`MAX_LINES`]. For each of `places` there is a seat, by which one client at a time
-    /// takes the version that it reads. The store is empty. It holds messages of at most as many `topics`, which count at most as many bytes
-    /// as `memory` says. If `idle` is given, a connection ends if no byte came for so long, or if no byte of what waits for its client was
-    /// taken for so long. As many clients may wait to be accepted as are served at the same time, but at least 4,096, and no more than the
-    /// system lets wait.
+    /// Binds an address, and makes an empty store.
+    ///
+    /// `address` is a host's name, an IPv4 or an IPv6 address, and a port, as `localhost:1883` or `[::1]:1883`. Port 0 takes one that is free.
+    ///
+    /// - The server will serve `clients` clients at the same time, but at least as many as there are `places`, and at most [`MAX_LINES`].
+    /// - As many clients may wait to be accepted, but at least 4,096, and no more than the system lets wait.
+    /// - For each of `places` there is a seat, by which one client at a time takes the version that it reads.
+    /// - If `idle` is given, a connection ends if for so long no byte comes, or its client takes none of what waits for it.
     ///
     /// # Errors
     ///
@@ -214,7 +215,7 @@ impl Server {
     /// [`NoMemory`](ListenFault::NoMemory) if memory is refused for the store, the queue, the gates or the threads,
     /// [`NoThread`](ListenFault::NoThread) if the thread of the store's writer, that of the first client or the first lane, or that for metrics
     /// cannot be started, [`Address`](ListenFault::Address) if the descriptors are refused by which clients are watched, or by which the thread
-    /// for metrics is ended. No client was served, as the code is made; no clause says so.
+    /// for metrics is ended. Then no client was served, but no clause says so.
     pub fn run<H: Clock + Log + Threads + Wait + Copy + Send + Sync + 'static>(
         self,
         rt: H,

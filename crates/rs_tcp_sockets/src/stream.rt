@@ -86,6 +86,7 @@ impl Write for SharedStream {
         Ok(size)
     }
 
+    /// Does nothing: the system sends at once what is written (TCP_NODELAY, which `open` sets).
     fn flush(&mut self) -> io::Result<()> {
         Ok(())
     }

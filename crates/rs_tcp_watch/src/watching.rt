@@ -127,15 +127,15 @@ impl<H: Clock + Wait + Copy> SocketWatch<H> {
         self.ask_listener(&mut guard);
     }
 
-    /// A connection can be accepted: the client that does so.
+    /// The free client that is to accept the connection that waits. `None` if no client is free.
     fn begin_accept(&self) -> Option<usize> {
         let mut guard = self.free.lock(&self.rt);
         guard.tell()
     }
 
-    /// Once all connections were accepted: puts the numbers of free clients at the front of `ready`, as many as there is room for: how many.
+    /// Once all connections were accepted, puts the numbers of free clients at the front of `ready`, as many as fit: how many.
     ///
-    /// A client that [`add_free`](SocketWatch::add_free) took before the last connection was counted is there then, and it takes none later.
+    /// Each free client is told: [`add_free`](SocketWatch::add_free) takes none after the last connection was counted.
     fn put_free(&self, ready: &mut [usize]) -> usize
         ensures { result ≤ length ready.new }
     {

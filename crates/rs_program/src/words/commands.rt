@@ -116,6 +116,7 @@ const _: () = prove!(MAX_IDLE == 86_400);
 
 const _: () = prove!(MAX_OWN_TOPICS == 10_000);
 
+/// The command line of `rstored`: both commands with their options.
 pub(super) fn command<'a>(alloc: Global) -> Result<Command<'a>, AllocError>
     ensures shape { IfOk result (λ c. app_of c ≡ rstored_words) }
     ensures local { IfOk result (λ c. (fields_of c).has_globals ≡ false) }

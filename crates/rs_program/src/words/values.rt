@@ -20,6 +20,7 @@ const NO_SIZE: &str = "\
 error: --memory takes a number of bytes from 1 to 18446744073709551615, or a number before K, M or G, as 512M
 ";
 
+/// What the words of `pipe` ask for.
 pub(super) fn pipe_of(alloc: Global, found: &ArgMatches<'_>) -> Result<Run, WordsFault>
     ensures run { IfOk result (IsRunOf (codes "pipe") (rows_of (found_of found.now))) }
     ensures range { IfOk result IsInRange }
@@ -33,6 +34,7 @@ pub(super) fn pipe_of(alloc: Global, found: &ArgMatches<'_>) -> Result<Run, Word
     })
 }
 
+/// What the words of `listen` ask for. The checks here are those that `clap` does not make.
 pub(super) fn listen_of(alloc: Global, found: &ArgMatches<'_>) -> Result<Run, WordsFault>
     ensures run { IfOk result (IsRunOf (codes "listen") (rows_of (found_of found.now))) }
     ensures range { IfOk result IsInRange }

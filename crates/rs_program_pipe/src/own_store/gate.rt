@@ -59,6 +59,7 @@ impl Gate for OwnGate {
         ensures done { OnOk result (IsAdded (content_of self.old) (next_entry (content_of self.old) operation) (content_of self.new)) }
         ensures refused { IfErr result (λ fault. IsLeft (content_of self.old) operation fault (content_of self.new)) }
     {
+        // For the proof, which goes case by case. So do the answers below.
         match self.gate.submit(operation) {
             Ok(()) => Ok(()),
             Err(fault) => Err(fault),
