@@ -13,11 +13,6 @@ MILLIS = 500
 SWEEP_LIMIT = 50
 SWEEP_LOAD = (65_536, 3)
 
-# How many times as many answers four seats have to be given as one, each on a thread of its own
-# beside a writer that puts. This is for four processors; other work on the machine takes some of
-# them.
-SEATS_LIMIT = 3
-
 # How many times the memory of one catalogue the two of a store of versions may take. They share
 # their messages; two that shared nothing would take twice as much.
 MEMORY_LIMIT = 2
@@ -29,9 +24,9 @@ EACH_LIMIT = 600
 
 
 def run(topics, readers, millis=MILLIS):
-    """By name, the nanoseconds that were taken in a run of so many milliseconds, the number of
-    rounds and that of answers."""
-    names = ("rounds", "new", "replace", "sweep", "all", "answers")
+    """By name, the number of rounds in a run of so many milliseconds, and the nanoseconds that
+    their puts took."""
+    names = ("rounds", "new", "replace", "sweep")
     return trial(names, "versions", topics, readers, millis)
 
 
@@ -58,23 +53,6 @@ def sweeps_are_short(tries=3):
     return took < SWEEP_LIMIT
 
 
-def answers_a_second(readers, tries=3):
-    """How many answers all seats together are given in a second, beside a writer that puts; the
-    most of some runs."""
-    runs = [run(TOPICS[0], readers) for _ in range(tries)]
-    return max(made["answers"] * 1_000_000_000 / made["all"] for made in runs)
-
-
-@with_rounds
-def seats_are_fast():
-    """Whether four seats are given about four times as many answers as one."""
-    one, four = answers_a_second(1), answers_a_second(4)
-    times = four / one
-    shown = f"one seat {one:,.0f}, four {four:,.0f}; {times:.1f} times"
-    print(f"answers a second beside puts: {shown} (more than {SEATS_LIMIT} needed)")
-    return times > SEATS_LIMIT
-
-
 def copies_share():
     """Whether two copies take less than twice the memory of one catalogue."""
     one, two = (peak_memory(task, MESSAGES) for task in ("keep", "keep_versions"))
@@ -97,7 +75,7 @@ def is_fast():
     for topics in TOPICS:
         for readers in READERS:
             put_times(topics, readers)
-    return all([sweeps_are_short(), seats_are_fast(), copies_share(), copies_are_small()])
+    return all([sweeps_are_short(), copies_share(), copies_are_small()])
 
 
 def once():

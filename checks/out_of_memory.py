@@ -24,6 +24,7 @@ from checks.exchange import (
     short_exchange,
 )
 from checks.out_of_memory_journal import DOUBT, END, KINDS
+from harness.in_order import in_order
 from harness.patience import PATIENCE
 from harness.program import preloaded, program
 from harness.words import given_words
@@ -47,11 +48,11 @@ def run_refused(words, given, at, count, library):
 def in_turn(words, given, library, count=1):
     """The runs in which so many allocations fail, from the first, second, third .. on, and last
     the one that has no such allocation."""
-    at, was_refused = 0, True
-    while was_refused:
-        at += 1
-        run, was_refused = run_refused(words, given, at, count, library)
+    runs = in_order(lambda at: run_refused(words, given, at, count, library))
+    for at, (run, was_refused) in enumerate(runs, 1):
         yield at, run, was_refused
+        if not was_refused:
+            return
 
 
 def enough(name, counts, least, runs):

@@ -5,7 +5,6 @@ commit may be in doubt: then a kill and a loss of power leave what stood before 
 the program has no memory for itself, it ends, which is as good as a loss of power.
 """
 
-import itertools
 import os
 import shutil
 import sys
@@ -13,6 +12,7 @@ import tempfile
 from collections import Counter
 from pathlib import Path
 
+from harness.in_order import in_order
 from harness.journal import FILES, Ended, Shell, numbered
 from harness.program import preloaded
 
@@ -194,24 +194,29 @@ def refusals():
         return in_turn(":".join(libraries))
 
 
+def run_refused(libraries, at):
+    """One run in which the allocation of this number fails: how often each kind of call was refused
+    memory, whether there was such an allocation, and what is wrong."""
+    with tempfile.TemporaryDirectory(dir=FOLDER) as folder, tempfile.TemporaryFile() as told:
+        numbers = {"FAIL_AT": at, "FAIL_COUNT": 1, "FAIL_TELL": told.fileno()}
+        environment = {"LD_PRELOAD": libraries, **{key: str(own) for key, own in numbers.items()}}
+        session, wrong = Session(folder, env=environment, pass_fds=[told.fileno()]), None
+        try:
+            session.end()
+        except Wrong as error:
+            wrong = error
+        return session.refused, told.seek(0, os.SEEK_END) > 0, wrong
+
+
 def in_turn(libraries):
     refused, untold = Counter(), 0
-    for at in itertools.count(1):
-        with tempfile.TemporaryDirectory(dir=FOLDER) as folder, tempfile.TemporaryFile() as told:
-            numbers = {"FAIL_AT": at, "FAIL_COUNT": 1, "FAIL_TELL": told.fileno()}
-            environment = {
-                "LD_PRELOAD": libraries,
-                **{key: str(own) for key, own in numbers.items()},
-            }
-            session = Session(folder, env=environment, pass_fds=[told.fileno()])
-            try:
-                session.end()
-            except Wrong as wrong:
-                sys.exit(f"a journal, allocation {at}: {wrong}")
-            was_refused = told.seek(0, os.SEEK_END) > 0
+    runs = in_order(lambda at: run_refused(libraries, at))
+    for at, (counts, was_refused, wrong) in enumerate(runs, 1):
+        if wrong is not None:
+            sys.exit(f"a journal, allocation {at}: {wrong}")
         if not was_refused:
-            if session.refused:
-                sys.exit(f"a journal: {dict(session.refused)}, and no allocation failed")
+            if counts:
+                sys.exit(f"a journal: {dict(counts)}, and no allocation failed")
             return refused, untold, at - 1
-        refused.update(session.refused)
-        untold += not session.refused
+        refused.update(counts)
+        untold += not counts

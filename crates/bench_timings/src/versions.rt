@@ -1,8 +1,8 @@
-//! How long a put takes while seats read, and how many answers they get meanwhile.
+//! How long a put takes while seats read.
 
 ghost use Rattle.std.specs.Prelude.{◌≡◌};
 
-use crate::row::{EARLY, Row, expiring, fill, in_order, nanos, timed};
+use crate::row::{EARLY, Row, expiring, fill, in_order, timed};
 use kit_test::{Change, Failure, Keeper, Naming, check};
 use rs_message::{MAX_PLACES, PlaceCount};
 use rs_store::TopicLimit;
@@ -12,7 +12,7 @@ use std::alloc::Global;
 use std::marker::Brand;
 use std::rt::Clock;
 use std::sync::Wait;
-use std::sync::atomic::{AtomicBool, AtomicU32, AtomicU64, Ordering};
+use std::sync::atomic::{AtomicBool, AtomicU32, Ordering};
 use std::thread;
 use std::thread::{Threads, yield_now};
 use std::time::{Duration, Instant};
@@ -25,14 +25,13 @@ struct Load {
     time: Duration,
 }
 
-/// How many rounds were made, and how long the puts of new topics took, those of replacements, the one that swept, and all.
+/// How many rounds were made, and how long the puts of new topics took, those of replacements, and the one that swept.
 #[derive(Clone, Copy)]
 struct Times {
     rounds: u32,
     new: u64,
     replace: u64,
     sweep: u64,
-    all: u64,
 }
 
 /// What the seats share with the writer.
@@ -43,7 +42,6 @@ struct Shared {
     threads: u32,
     started: AtomicU32,
     stop: AtomicBool,
-    answers: AtomicU64,
 }
 
 impl Shared {
@@ -84,7 +82,6 @@ fn rounds<C: Clock, K: Keeper>(
         new: 0,
         replace: 0,
         sweep: 0,
-        all: 0,
     };
     let start = Instant::now(clock)?;
     let mut serial = u64::from(filled.to);
@@ -116,26 +113,20 @@ fn rounds<C: Clock, K: Keeper>(
         times.sweep = timed(clock, alloc, writer, &last)?;
         check(writer.count() == version.wrapping_add(2))?;
     }
-    times.all = nanos(start.elapsed(clock)?);
     Ok(times)
 }
 
-/// Answers the filter once, and from the start on until it is told to stop. Adds how often it found one message from then on.
+/// Answers the filter once, and from the start on until it is told to stop.
 fn read<N: StoreName>(seat: Seat<N>, shared: &Shared) {
     let mut seat = seat;
     drop(seat.answer(&shared.filter, 0));
     shared.start();
-    let mut count = 0u64;
     for _ in 0..u64::MAX {
         if shared.stop.load(Ordering::SeqCst) {
             break;
         }
-        match seat.answer(&shared.filter, 0) {
-            Ok(snapshot) if snapshot.found.len() == 1 => count = count.wrapping_add(1),
-            _ => {}
-        }
+        drop(seat.answer(&shared.filter, 0));
     }
-    shared.answers.fetch_add(count, Ordering::SeqCst);
 }
 
 /// Puts while each seat reads on a thread of its own.
@@ -180,8 +171,8 @@ fn timed_puts<H: Clock + Threads + Wait + Sync, N: StoreName + Send + Sync>(
     beside(rt, alloc, &mut writer, seats, load, shared)
 }
 
-/// How many rounds were made in so many milliseconds, how long the puts of new topics took, those of replacements, the one that swept,
-/// and all, and how often the seats were answered meanwhile, each of which reads one topic all the time.
+/// How many rounds were made in so many milliseconds, how long the puts of new topics took, those of replacements, and the one that
+/// swept, while each seat read one topic all the time.
 fn measured<H: Clock + Threads + Wait + Sync>(
     rt: &H,
     alloc: Global,
@@ -200,18 +191,14 @@ fn measured<H: Clock + Threads + Wait + Sync>(
         threads: load.readers.saturating_add(1),
         started: AtomicU32::new(0),
         stop: AtomicBool::new(false),
-        answers: AtomicU64::new(0),
     };
     let blank = Blank::new(alloc, limit, places)?;
     let times = timed_puts::<H, Brand>(rt, alloc, blank, load, &shared)?;
-    let answers = shared.answers.load(Ordering::SeqCst);
     Ok(vec![in alloc;
         u64::from(times.rounds),
         times.new,
         times.replace,
         times.sweep,
-        times.all,
-        answers,
     ]?)
 }
 

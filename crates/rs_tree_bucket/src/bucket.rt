@@ -1,6 +1,6 @@
 //! A few messages below one spot of the tree, which are shared until they are changed.
 
-ghost use Rattle.std.specs.Prelude.{◌≡◌, ◌+◌, ◌++◌, ◌<◌, ◌≤◌, ◌^◌, [], ◌∷◌, true, length, IfErr, IfOk, IfSome, IsTrue, OnErr, OnOk};
+ghost use Rattle.std.specs.Prelude.{◌≡◌, ◌+◌, ◌++◌, ◌<◌, ◌≤◌, ◌^◌, [], ◌∷◌, true, length, IfErr, IfOk, IfSome, None, IsTrue, OnErr, OnOk};
 ghost use Rattle.std.specs.Arc.{arc_value};
 ghost use Rattle.std.specs.BTreeMap.{insert_entry};
 ghost use Rattle.std.specs.List.{filter};
@@ -14,6 +14,7 @@ ghost use Rattle.rs_tree_bucket.specs.Spots.{found_at, is_there, spot_of, under}
 ghost use Rattle.rs_tree_bucket.specs.Sweeping.{is_expired_spot};
 ghost use Rattle.rs_tree_bucket.specs.Weights.{weight};
 ghost use Rattle.rs_store.specs.declared.limit.TheConstants.{MAX_TOPICS};
+ghost use Rattle.rs_tree_bucket.specs.declared.leaves.TheConstants.{MOST};
 ghost use Rattle.rs_tree_bucket.specs.Clearing.{Clears};
 ghost use Rattle.rs_tree_bucket.specs.Rests.{IsSomeRest};
 ghost use Rattle.rs_store.specs.Room.{IsStop};
@@ -151,7 +152,8 @@ impl Bucket {
 
     /// Its messages, if it has more than it is to have.
     pub fn overflow(&self) -> Option<&Leaves>
-        ensures { IfSome result (λ leaves. leaves.now ≡ self.now) }
+        ensures all { IfSome result (λ leaves. leaves.now ≡ self.now) }
+        ensures few { result ≡ None → length self.now ≤ MOST }
     {
         match &self.messages {
             Messages::One(_, _) => None,

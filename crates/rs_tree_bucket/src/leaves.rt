@@ -1,6 +1,6 @@
 //! A few messages below one spot of the tree, in the order of replay.
 
-ghost use Rattle.std.specs.Prelude.{◌≡◌, ◌+◌, ◌++◌, ◌<◌, ◌≤◌, ◌^◌, [], ◌∷◌, false, length, IfErr, IfOk, IfSome, IsTrue, MatchResult, OnErr, OnOk};
+ghost use Rattle.std.specs.Prelude.{◌≡◌, ◌↔◌, ◌+◌, ◌++◌, ◌<◌, ◌≤◌, ◌^◌, [], ◌∷◌, false, length, IfErr, IfOk, IfSome, IsTrue, MatchResult, OnErr, OnOk};
 ghost use Rattle.std.specs.BTreeMap.{insert_entry, is_at};
 ghost use Rattle.std.specs.List.{filter};
 ghost use Rattle.std.specs.List.Sorted.{IsStrictlySortedBy};
@@ -18,6 +18,7 @@ ghost use Rattle.rs_tree_bucket.specs.Spots.{found_at, is_nothing, is_there, spo
 ghost use Rattle.rs_tree_bucket.specs.Sweeping.{is_expired_spot, spot_stays};
 ghost use Rattle.rs_tree_bucket.specs.Weights.{weight};
 ghost use Rattle.rs_store.specs.declared.limit.TheConstants.{MAX_TOPICS};
+ghost use Rattle.rs_tree_bucket.specs.declared.leaves.TheConstants.{MOST};
 
 use crate::chain::shared_levels;
 use crate::cleared::Cleared;
@@ -206,8 +207,10 @@ impl Leaves {
     }
 
     /// It has more messages than it is to have.
-    pub(crate) fn is_overfull(&self) -> bool {
-        self.leaves.len() > MOST
+    pub(crate) fn is_overfull(&self) -> bool
+        ensures { IsTrue result ↔ MOST < length self.now }
+    {
+        self.len() > MOST
     }
 
     /// Sets the message at the rest of its topic, and returns the one that it replaces. If memory is refused, nothing changes.

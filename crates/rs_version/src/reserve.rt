@@ -1,7 +1,7 @@
 //! Memory that the writer keeps for when no other is left.
 
 ghost use Rattle.std.specs.Prelude.{◌≡◌, ◌+◌, ◌<◌, ◌≤◌, [], length, vec_capacity, MatchBool, OnErr, OnOk};
-ghost use Rattle.rs_version.specs.declared.reserve.TheConstants.{BLOCK_SIZE, ENOUGH_BLOCKS};
+ghost use Rattle.rs_version.specs.declared.reserve.TheConstants.{BLOCK_SIZE, ENOUGH_BLOCKS, MOST_BLOCKS};
 
 use std::alloc::{AllocError, Global};
 
@@ -26,6 +26,7 @@ struct Block {
 pub struct Reserve {
     alloc: Global,
     blocks: Vec<Block>,
+    ghost few: { length blocks.items ≤ MOST_BLOCKS },
 }
 
 impl Reserve {
@@ -60,6 +61,7 @@ impl Reserve {
 
     /// Takes one more block.
     fn take_block(&mut self) -> Result<(), AllocError>
+        requires { length self.old.blocks.items < MOST_BLOCKS }
         ensures more { OnOk result (length self.new.blocks.items ≡ length self.old.blocks.items + 1) }
         ensures refused { OnErr result (self.new.blocks.items ≡ self.old.blocks.items) }
     {

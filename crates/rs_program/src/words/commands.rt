@@ -44,61 +44,62 @@ const AT_HELP: &str =
 const LISTEN_ABOUT: &str = "Serve MQTT 5 clients that connect by TCP";
 
 const LISTEN_HELP: &str = "\
-Serves MQTT 5 clients that connect by TCP. They share one store of retained messages. It prints the
-address that it listens on. After --connections connections it prints how many they were, and ends,
-however each of them ended. With --endless it goes on until a signal ends it. One of the two has to
-be given.
+Serves MQTT 5 clients that connect by TCP. All of them share one store of retained messages. The
+program prints the address that it listens on. With --connections it ends after that many
+connections, however each of them ended, and prints how many they were. With --endless it runs until
+a signal ends it. One of the two is required.
 
-Up to --clients clients are served at the same time, each with a line of its own to the store. The
-next one waits until one of them is gone. If they are as many as --places, each has a thread. If
-they are more, each place has a lane of threads for its share of them. Keep Alive is not enforced:
-without --idle a client that is silent stays until it disconnects. With --idle its connection ends
-once it sent nothing, or took nothing of what waits for it, for so many seconds. A client that keeps
-its Keep Alive is not cut off if --idle is at least one and a half times that interval.
+Up to --clients clients are served at once, each with a line of its own to the store. Others wait
+until one of these has gone. If there are no more clients than --places, each has a thread.
+Otherwise they share the places, each of which has a lane of threads. Keep Alive is not enforced:
+without --idle, a silent client stays until it disconnects. With --idle, its connection ends if for
+that many seconds it sends nothing, or takes nothing of what waits for it. A client that keeps its
+Keep Alive is not cut off if --idle is at least one and a half times that interval.
 
 With --log, it writes a line to standard error when a connection begins and when it ends, with the
-place of its client, or the client's number if there are more clients than places, its own number
-there, the client's address, how it ended and what it was refused; one when the store is full or has
-no memory left, and one when it takes new topics or messages again; one if the process may have too
-few descriptors for its clients; and one if it cannot listen, with the reason.
+place of its client (the client's number if there are more clients than places), the number of the
+connection, the client's address, how it ended and what it was refused; when the store is full or has
+no memory left, and when it takes new topics or messages again; if the process may have too few
+descriptors for its clients, or the system lets too few of them wait; and if it cannot listen, with
+the reason.
 
-With --metrics, a thread of its own answers requests by HTTP at one more address, whose number it prints
-too: GET /metrics has what the server counts, for Prometheus, and GET /healthz says whether its store
-takes changes. The thread serves up to eight requests at a time, each for up to five seconds.
+With --metrics, a separate thread answers HTTP requests at that address, which is also printed:
+GET /metrics returns what the server counts, for Prometheus, and GET /healthz tells whether its store
+takes changes. The thread serves up to eight requests at once, each for up to five seconds.
 
-The store is in memory. It is empty at the start, and lost at the end. With --memory, a message is
-refused after which all messages would count more bytes: each its topic, its payload and properties,
-and 360 more.
+The store is in memory: it is empty at the start, and lost at the end. With --memory, a message is
+refused if all messages would then count more bytes. Each counts its topic, its payload and
+properties, and 360 more.
 
-There is no TLS, and user names and passwords are not checked. Listen only where none but trusted
-clients can reach the address. Nor is anybody asked who reads the metrics.";
+There is no TLS, and user names and passwords are not checked. Listen only where every client is
+trusted. Whoever reaches the address of the metrics can read them.";
 
 const ADDRESS_HELP: &str =
     "The address to listen on: a host's name, an IPv4 or an IPv6 address, and a port, \
 as localhost:1883, 127.0.0.1:1883 or [::1]:1883. Port 0 takes one that is free";
 
 const PLACES_HELP: &str =
-    "How many clients read the store at the same time, and how many lanes of threads serve them if they are more";
+    "How many clients read the store at the same time. If there are more clients, as many lanes of threads serve them";
 
 const CLIENTS_HELP: &str =
-    "How many clients are served at the same time, at least as many as places; as many, if it is not given";
+    "How many clients are served at once, at least as many as places; by default as many";
 
 const TOPICS_HELP: &str = "How many topics may hold a message";
 
 const MEMORY_HELP: &str =
-    "How many bytes the messages may count: a number, or one before K, M or G, as 512M; any number, if it is not given";
+    "How many bytes the messages may count: a number, alone or before K, M or G, as 512M; by default there is no limit";
 
 const CONNECTIONS_HELP: &str = "After how many connections the program ends";
 
 const ENDLESS_HELP: &str = "Go on until a signal ends the program, instead of --connections";
 
-const IDLE_HELP: &str = "After how many seconds an idle connection ends; never, if it is not given";
+const IDLE_HELP: &str = "After how many seconds an idle connection ends; by default never";
 
 const LOG_HELP: &str =
     "Write a line to standard error when a connection begins and when it ends, and when the store refuses messages";
 
 const METRICS_HELP: &str =
-    "The address at which metrics are told by HTTP, as localhost:9100; nowhere, if it is not given";
+    "The address at which metrics are served by HTTP, as localhost:9100; by default nowhere";
 
 // The value names `1-64`, `1-10000`, `1-65536`, `1-1000000` and `1-86400` below, and the default of `--topics`, which is the limit of
 // `pipe`.
