@@ -134,6 +134,23 @@ fn settings(
     })
 }
 
+/// The thread on which a server runs.
+fn run<
+    H: Clock
+        + Log
+        + Net<Listener = TcpListener, Stream = TcpStream>
+        + Threads
+        + Files
+        + AllocGlobal
+        + Wait
+        + Copy
+        + Send
+        + Sync
+        + 'static,
+>(rt: H, server: Server) -> Result<JoinHandle<Option<Summary>>, Fail> {
+    Ok(spawn(&rt, move || server.run(rt).ok())?)
+}
+
 /// Starts a server: its address, and the thread that serves.
 fn start<
     H: Clock
@@ -158,8 +175,7 @@ fn start<
     let settings = settings(connections, places, clients, idle)?;
     let server = Server::bind(&rt, alloc, "127.0.0.1:0", settings)?;
     let address = server.address()?;
-    let serving = spawn(&rt, move || server.run(rt).ok())?;
-    Ok((address, serving))
+    Ok((address, run(rt, server)?))
 }
 
 /// Serves the three clients. Whether they went as they should, and what the server tells at its end.
@@ -346,7 +362,7 @@ fn a_server_tells_its_health(rt: HostRuntime) -> Result<(), Fail> {
     let server = server.with_metrics(&rt, "127.0.0.1:0")?;
     let address = server.address()?;
     let told = server.metrics_address()?.ok_or("no address")?;
-    let serving = spawn(&rt, move || server.run(rt).ok())?;
+    let serving = run(rt, server)?;
     assert!(rt; is_healthy(&rt, told.as_str())?);
     assert!(rt; is_served(&rt, address.as_str(), PUBLISH, PUBACK));
     let summary = Summary {
