@@ -1,9 +1,10 @@
 -- What stands, and what is seen, along the calls of a pager.
-use Rattle.std.proofs.Common.{◌≡◌, ◌⊎◌, inl, inr, ℕ, ◌+◌, ◌<◌, ◌≤◌, ◌^◌, List, [], ◌++◌, length, IsTrue, Result, Ok, Err, OnErr, refl, sym, ap, subst, ◌∙◌, arith, append_assoc}
+use Rattle.std.proofs.Common.{◌≡◌, ◌⊎◌, inl, inr, Bool, true, false, ℕ, ◌+◌, ◌<◌, ◌≤◌, ◌^◌, List, [], ◌++◌, length, IsTrue, Result, Ok, Err, OnErr, refl, sym, ap, subst, ◌∙◌, arith, append_assoc}
 use Rattle.std.proofs.lemmas.List.{append-nil}
 use Rattle.sqlite_disk.specs.declared.Disk.{Ghosts}
+use Rattle.sqlite_disk.specs.Disk.{MoreFaults}
 use Rattle.sqlite_wal.specs.Recovery.{Pages, Image, Recovers, RecoversAs, AddsNothing, AreWhole}
-use Rattle.sqlite_wal.specs.State.{Keeps, MayCommit}
+use Rattle.sqlite_wal.specs.State.{State, Keeps, MayCommit, StaysOrFails}
 use Rattle.sqlite_wal.proofs.LogLemmas.{SeenMayStay}
 use Rattle.sqlite_wal.proofs.StateLemmas.{AddsNothing-fewer, AddsNothing-trans, clean_of, open_from, ready_of, Keeps-refl, Keeps-trans}
 use Rattle.sqlite_pager.specs.declared.pager.Pager.{Pager}
@@ -49,6 +50,14 @@ pub on_err : {T E : Type 0} (r : Result T E) (P : Type 0) → P → OnErr r P
 on_err (Ok x) P holds = tt
 on_err (Err e) P holds = holds
 
+not_true : (b : Bool) → ¬ IsTrue b → b ≡ false
+not_true true never = absurd (never refl)
+not_true false never = refl
+
+-- it closes only at a failed call
+pub failed_if_closed : (old new : State) (was is : Bool) → StaysOrFails old new → is ≡ was → IsTrue old.is_ready × IsTrue was → ¬ (IsTrue new.is_ready × IsTrue is) → MoreFaults old.faults new.faults
+failed_if_closed old new was is stays same before shut = stays.stops before.0 (not_true new.is_ready (λ ready. shut (ready, same ∙ before.1)))
+
 module _ {D : Type 0} {g : Ghosts D} where
   pub stands_of : (it : PageStream D g) (standing seen : List ℕ) → Holds it standing seen → Stands it standing
   unfolding Stands Holds Rests
@@ -74,11 +83,11 @@ module _ {D : Type 0} {g : Ghosts D} where
   stands_same old new standing pager same stands =
       stands_along old new standing (subst (λ (p : Pager D g). Keeps (state old.pager) (state p)) (sym pager) (Keeps-refl (state old.pager))) same stands
 
-  pub goes_on_same : (old new : PageStream D g) → new.pager ≡ old.pager → new.standing ≡ old.standing → GoesOn old new
-  goes_on_same old new pager same = record { keeps = subst (λ (p : Pager D g). Keeps (state old.pager) (state p)) (sym pager) (Keeps-refl (state old.pager)); standing = same }
+  pub goes_on_same : (old new : PageStream D g) → new.pager ≡ old.pager → new.standing ≡ old.standing → new.is_found ≡ old.is_found → GoesOn old new
+  goes_on_same old new pager same found = record { keeps = subst (λ (p : Pager D g). Keeps (state old.pager) (state p)) (sym pager) (Keeps-refl (state old.pager)); standing = same; found = found }
 
   pub goes_on_trans : (a b c : PageStream D g) → GoesOn a b → GoesOn b c → GoesOn a c
-  goes_on_trans a b c s t = record { keeps = Keeps-trans (state a.pager) (state b.pager) (state c.pager) s.keeps t.keeps; standing = t.standing ∙ s.standing }
+  goes_on_trans a b c s t = record { keeps = Keeps-trans (state a.pager) (state b.pager) (state c.pager) s.keeps t.keeps; standing = t.standing ∙ s.standing; found = t.found ∙ s.found }
 
   pub stands_on : (old new : PageStream D g) (standing : List ℕ) → GoesOn old new → Stands old standing → Stands new standing
   stands_on old new standing on stands = stands_along old new standing on.keeps on.standing stands

@@ -73,6 +73,10 @@ module _ {D : Type 0} {g : Ghosts D} where
   abbrev pub AddsNoOutcome : Journal D g → Journal D g → Type 0
   AddsNoOutcome old new = stream.AddsNoOutcome old.stream new.stream
 
+  -- a call of the files failed on the way
+  abbrev pub HasFailed : Journal D g → Journal D g → Type 0
+  HasFailed old new = stream.HasFailed old.stream new.stream
+
   -- it stays closed, no crash leaves more, and the files are not touched
   abbrev pub StaysClosed : Journal D g → Journal D g → Type 0
   StaysClosed old new = stream.StaysClosed old.stream new.stream

@@ -1,6 +1,7 @@
 -- What stands in a stream, and what a crash may leave of it.
 use Rattle.std.specs.Prelude.{◌≡◌, ℕ, ◌+◌, List, [], ◌++◌, IsTrue}
 use Rattle.sqlite_disk.specs.declared.Disk.{Ghosts}
+use Rattle.sqlite_disk.specs.Disk.{MoreFaults}
 use Rattle.sqlite_wal.specs.Recovery.{Image, AddsNothing}
 use Rattle.sqlite_wal.specs.State.{Keeps as KeepsState}
 use Rattle.sqlite_pager.specs.Pager.{files, state, visible, log_frames, image as pages_image, AreUsable as AreUsablePages, HasSpilled as HasSpilledPages}
@@ -68,6 +69,15 @@ module _ {D : Type 0} {g : Ghosts D} where
   pub record GoesOn (old new : PageStream D g) : Type 0 where
     pub keeps : KeepsState (state old.pager) (state new.pager)
     pub standing : new.standing ≡ old.standing
+    pub found : new.is_found ≡ old.is_found
+
+  -- how many calls of the files have failed
+  abbrev pub fault_count : PageStream D g → ℕ
+  fault_count it = (state it.pager).faults
+
+  -- a call of the files failed on the way
+  abbrev pub HasFailed : PageStream D g → PageStream D g → Type 0
+  HasFailed old new = MoreFaults (fault_count old) (fault_count new)
 
   -- each new outcome of a crash stands for what an old one stands for
   abbrev pub AddsNoOutcome : PageStream D g → PageStream D g → Type 0

@@ -10,7 +10,7 @@ use sqlite_pager::Error;
 use std::alloc::AllocError;
 use thiserror::Error as ErrorMessage;
 
-/// Why operations are not read. The files have what they had.
+/// Why operations are not read. The files stand for what they did.
 #[derive(Clone, Copy, Debug, ErrorMessage)]
 pub enum ReadFault {
     /// The files were not opened.

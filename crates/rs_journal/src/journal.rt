@@ -29,7 +29,7 @@ pub struct Journal<D: Disk> {
 }
 
 impl<D: Disk> Journal<D> {
-    ghost use Rattle.rs_journal.specs.Journals.{may_leave, image, page_count, log_len, AreUsable, HasSpilled, IsClean, IsOpen, IsUnmade, files_of, Keeps, StandsFor, EachStandsForOne, AddsNoOutcome, Holds, Rests, StaysClosed};
+    ghost use Rattle.rs_journal.specs.Journals.{may_leave, image, page_count, log_len, AreUsable, HasSpilled, IsClean, IsOpen, IsUnmade, files_of, HasFailed, Keeps, StandsFor, EachStandsForOne, AddsNoOutcome, Holds, Rests, StaysClosed};
     ghost use Rattle.rs_journal.specs.Streams.{Rests as RestsStream, Stands as StandsStream};
     ghost use Rattle.rs_journal.specs.Frames.{frames};
 
@@ -88,8 +88,8 @@ impl<D: Disk> Journal<D> {
     }
 
     /// Opens the journal and hands on the operations that its files stand for, a page's worth at a time. A crash on the way leaves what
-    /// they stood for. Files in which anything was made keep it, whatever comes of this. If it fails, the sink may have some of the
-    /// operations, and the journal is closed: each call but an opening refuses, and does not touch the files.
+    /// they stood for. Files in which anything was made stand for it still, whatever comes of this. If it fails, the sink may have some
+    /// of the operations, and the journal is closed: each call but an opening refuses, and does not touch the files.
     pub fn open<S: OperationSink>(&mut self, sink: &mut S) -> Result<(), ReadFault>
         requires { AreUsable self.old }
         ensures found { OnOk result ((operations : List Kept) × ((before : List Kept) → S.has_taken sink.old before → S.has_taken sink.new (before ++ operations)) × All IsOperation operations
@@ -158,6 +158,7 @@ impl<D: Disk> Journal<D> {
 
     /// Forgets what was pushed since the last commit.
     pub fn rollback(&mut self)
+        ensures open { IsOpen self.new ↔ IsOpen self.old }
         ensures closed { ¬ IsOpen self.old → StaysClosed self.old self.new }
         ensures rests { (standing seen : List Kept) → Holds self.old standing seen → Rests self.new standing }
         ensures crash { AddsNoOutcome self.old self.new }
@@ -217,15 +218,18 @@ impl<D: Disk> Journal<D> {
         }
     }
 
-    /// Makes what is seen what stands. `Refused`: what was pushed is forgotten, and no crash brings it back. `Doubtful`: a crash leaves
-    /// the one or the other, and the journal, which was open, is closed: from then on each call but an opening refuses, and does not touch
-    /// the files.
+    /// Makes what is seen what stands. `Refused`: what was pushed is forgotten, no crash brings it back, and a journal that was open still
+    /// is. `Doubtful`: a call of the files failed, a crash leaves the one or the other, and the journal, which was open, is closed: from
+    /// then on each call but an opening refuses, and does not touch the files.
     pub fn commit(&mut self) -> Result<(), WriteFault>
         ensures open { OnOk result (IsOpen self.old) }
         ensures closed { ¬ IsOpen self.old → StaysClosed self.old self.new }
         ensures answer { ¬ IsOpen self.old → result ≡ Err (WriteFault.Refused Error.Closed) }
         ensures done { OnOk result ((standing seen : List Kept) → Holds self.old standing seen → Rests self.new seen) }
+        ensures still { OnOk result (IsOpen self.new) }
         ensures doubtful { IfErr result (λ e. ¬ IsRefused e → IsOpen self.old × ¬ IsOpen self.new) }
+        ensures left_open { IfErr result (λ e. IsRefused e → IsOpen self.old → IsOpen self.new) }
+        ensures closes { IsOpen self.old → ¬ IsOpen self.new → HasFailed self.old self.new }
         ensures refused { IfErr result (λ e. IsRefused e → (standing seen : List Kept) → Holds self.old standing seen → Rests self.new standing) }
         ensures crash { (standing seen : List Kept) → Holds self.old standing seen → (left : Image) → may_leave self.new left → Keeps left standing ⊎ Keeps left seen }
     {

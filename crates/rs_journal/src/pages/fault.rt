@@ -8,7 +8,8 @@ use sqlite_pager::Error;
 use std::alloc::AllocError;
 use thiserror::Error as ErrorMessage;
 
-/// Why the stream of two files cannot be opened. The files have what they had.
+/// Why the stream of two files cannot be opened. If anything was made in them, the file of pages is as it was; a log that is none may be
+/// cut off and get a new head.
 #[derive(Clone, Copy, Debug, ErrorMessage)]
 pub enum OpenFault {
     /// The files are of another program, or damaged in their heads.

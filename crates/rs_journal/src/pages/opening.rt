@@ -153,7 +153,7 @@ impl<D: Disk> PageStream<D> {
     ghost use Rattle.rs_journal.specs.Streams.{may_leave, image, AddsNoOutcome, AreUsable, IsClean, IsOpen, Rests};
 
     /// Finds the stream that the files stand for, or makes them. A crash on the way leaves what they stood for. Files in which anything
-    /// was made keep it, whatever comes of this. If it fails, the stream is closed.
+    /// was made stand for it still, whatever comes of this. If it fails, the stream is closed.
     pub fn open(&mut self) -> Result<(), OpenFault>
         requires { AreUsable self.old }
         ensures found { OnOk result ((stream : List ℕ) × (IsClean self.new → StandsFor (image self.old) stream) × Rests self.new stream) }

@@ -54,7 +54,7 @@ fn put_page<D: Disk>(pager: &mut Pager<D>, at: u32, page: &[u8]) -> Result<(), E
 
 impl<D: Disk> PageStream<D> {
     ghost use Rattle.rs_journal.specs.Images.{Keeps as HasImage};
-    ghost use Rattle.rs_journal.specs.Streams.{files_of, may_leave, image, page_count, AreUsable, IsClean, IsOpen, IsSound, AddsNoOutcome, GoesOn, HasSpilled, log_len, part_at, SameParts, Stands, Holds, Rests, StaysClosed};
+    ghost use Rattle.rs_journal.specs.Streams.{files_of, may_leave, image, page_count, AreUsable, IsClean, IsOpen, IsSound, AddsNoOutcome, GoesOn, HasFailed, HasSpilled, fault_count, log_len, part_at, SameParts, Stands, Holds, Rests, StaysClosed};
 
     /// A stream over these files, which [`open`](PageStream::open) has to read first.
     pub fn new(
@@ -139,6 +139,7 @@ impl<D: Disk> PageStream<D> {
     pub fn rollback(&mut self)
         ensures rests { (standing : List ℕ) → Stands self.old standing → Rests self.new standing }
         ensures open { IsOpen self.new ↔ IsOpen self.old }
+        ensures faults { fault_count self.new ≡ fault_count self.old }
         ensures closed { ¬ IsOpen self.old → StaysClosed self.old self.new }
         ensures crash { AddsNoOutcome self.old self.new }
     {
@@ -285,6 +286,8 @@ impl<D: Disk> PageStream<D> {
     fn commit_all(&mut self) -> Result<(), Error>
         ensures open { OnOk result (IsOpen self.old) }
         ensures closed { ¬ IsOpen self.old → StaysClosed self.old self.new }
+        ensures still { OnOk result (IsOpen self.new) }
+        ensures closes { IsOpen self.old → ¬ IsOpen self.new → HasFailed self.old self.new }
         ensures done { OnOk result ((standing seen : List ℕ) → Holds self.old standing seen → Rests self.new seen) }
         ensures stands { OnErr result (IsOpen self.new → (standing seen : List ℕ) → Holds self.old standing seen → Stands self.new standing) }
         ensures crash { (standing seen : List ℕ) → Holds self.old standing seen → (left : Image) → may_leave self.new left → HasImage left standing ⊎ HasImage left seen }
@@ -305,6 +308,8 @@ impl<D: Disk> PageStream<D> {
     pub fn commit(&mut self) -> Result<(), Error>
         ensures open { OnOk result (IsOpen self.old) }
         ensures closed { ¬ IsOpen self.old → StaysClosed self.old self.new }
+        ensures still { OnOk result (IsOpen self.new) }
+        ensures closes { IsOpen self.old → ¬ IsOpen self.new → HasFailed self.old self.new }
         ensures done { OnOk result ((standing seen : List ℕ) → Holds self.old standing seen → Rests self.new seen) }
         ensures refused { OnErr result (IsOpen self.new → (standing seen : List ℕ) → Holds self.old standing seen → Rests self.new standing) }
         ensures crash { (standing seen : List ℕ) → Holds self.old standing seen → (left : Image) → may_leave self.new left → HasImage left standing ⊎ HasImage left seen }

@@ -52,3 +52,24 @@ pub returns-then-not-is_open-clause-crash : goal.returns-then-not-is_open-clause
 returns-then-not-is_open-clause-crash g c = λ standing seen holds left may.
     let it = c.rollback.new.self in
     inl (leaves_of it (frames standing) (stands_if_rests it (frames standing) (c.rollback.ensures.rests (frames standing) (stands_of _ (frames standing) (frames seen) holds))) left may)
+
+pub returns-in-Ok-clause-still : goal.returns-in-Ok-clause-still
+returns-in-Ok-clause-still g c = c.in-Ok.ensures.still
+
+pub returns-in-Ok-clause-closes : goal.returns-in-Ok-clause-closes
+returns-in-Ok-clause-closes g c = c.commit.ensures.closes
+
+pub returns-then-is_open-clause-closes : goal.returns-then-is_open-clause-closes
+returns-then-is_open-clause-closes g c = c.commit.ensures.closes
+
+pub returns-else-is_open-clause-closes : goal.returns-else-is_open-clause-closes
+returns-else-is_open-clause-closes g c = c.commit.ensures.closes
+
+pub returns-then-not-is_open-clause-closes : goal.returns-then-not-is_open-clause-closes
+returns-then-not-is_open-clause-closes g c = λ was shut. absurd (cc (c.if-not-is_open.true, c.is_open.ensures.1 was))
+
+pub returns-then-is_open-clause-left_open : goal.returns-then-is_open-clause-left_open
+returns-then-is_open-clause-left_open g c = λ _ was. c.is_open-in-Err.ensures.0 c.if-is_open.true
+
+pub returns-then-not-is_open-clause-left_open : goal.returns-then-not-is_open-clause-left_open
+returns-then-not-is_open-clause-left_open g c = λ _ was. absurd (cc (c.if-not-is_open.true, c.is_open.ensures.1 was))

@@ -10,3 +10,6 @@ returns-clause-crash g c = c.rollback.ensures.crash
 
 pub returns-clause-closed : goal.returns-clause-closed
 returns-clause-closed g c = c.rollback.ensures.closed
+
+pub returns-clause-open : goal.returns-clause-open
+returns-clause-open g c = c.rollback.ensures.open

@@ -1,6 +1,7 @@
-use Rattle.std.proofs.Common.{refl}
+use Rattle.std.proofs.Common.{ℕ, refl, subst, sym}
 use Rattle.rs_journal.proofs.StandsLemmas.{closed_trans, either_kept}
-use Rattle.rs_journal.specs.Streams.{may_leave}
+use Rattle.sqlite_disk.specs.Disk.{MoreFaults}
+use Rattle.rs_journal.specs.Streams.{fault_count, may_leave}
 use Rattle.rs_journal.proofs.pages.stream.PageStream.commit.Goals as goal
 
 pub returns-in-Ok-clause-done : goal.returns-in-Ok-clause-done
@@ -25,3 +26,13 @@ returns-in-Ok-clause-closed g c = c.commit_all.ensures.closed
 pub returns-in-Err-clause-closed : goal.returns-in-Err-clause-closed
 returns-in-Err-clause-closed g c = λ shut.
     let mid = c.commit_all.ensures.closed shut in closed_trans c.args.self.now c.commit_all.new.self c.rollback.new.self mid (c.rollback.ensures.closed mid.closed)
+
+pub returns-in-Ok-clause-still : goal.returns-in-Ok-clause-still
+returns-in-Ok-clause-still g c = c.in-Ok.ensures.still
+
+pub returns-in-Ok-clause-closes : goal.returns-in-Ok-clause-closes
+returns-in-Ok-clause-closes g c = c.commit_all.ensures.closes
+
+pub returns-in-Err-clause-closes : goal.returns-in-Err-clause-closes
+returns-in-Err-clause-closes g c = λ was shut.
+    subst (λ (n : ℕ). MoreFaults (fault_count c.args.self.now) n) (sym c.rollback.ensures.faults) (c.commit_all.ensures.closes was (λ still. shut (c.rollback.ensures.open.1 still)))

@@ -1,8 +1,8 @@
-use Rattle.std.proofs.Common.{ℕ, List, refl, inl}
-use Rattle.sqlite_wal.proofs.StateLemmas.{clean_of}
+use Rattle.std.proofs.Common.{ℕ, List, refl, inl, ◌∙◌}
+use Rattle.sqlite_wal.proofs.StateLemmas.{StaysOrFails-trans, clean_of}
 use Rattle.sqlite_pager.specs.Pager.{state}
 use Rattle.rs_journal.specs.Streams.{IsOpen, Holds, Stands}
-use Rattle.rs_journal.proofs.StandsLemmas.{closed_same, either_committed, leaves_of, on_err, rests_committed, stands_of, stands_on, stands_uncommitted}
+use Rattle.rs_journal.proofs.StandsLemmas.{closed_same, either_committed, failed_if_closed, leaves_of, on_err, rests_committed, stands_of, stands_on, stands_uncommitted}
 use Rattle.rs_journal.proofs.pages.stream.PageStream.commit_all.Goals as goal
 
 pub returns-in-Err-clause-stands : goal.returns-in-Err-clause-stands
@@ -54,3 +54,21 @@ returns-clause-closed g c = λ shut. absurd (shut c.in_ok-check_open.ensures)
 
 pub returns-clause-open : goal.returns-clause-open
 returns-clause-open g c = c.in_ok-check_open.ensures
+
+pub returns-clause-still : goal.returns-clause-still
+returns-clause-still g c = (c.in_default-commit.ensures.ready, c.flush.ensures.goes_on.found ∙ c.in_ok-check_open.ensures.1)
+
+pub returns-in_err-check_open-clause-closes : goal.returns-in_err-check_open-clause-closes
+returns-in_err-check_open-clause-closes g c = λ was shut. absurd (shut was)
+
+pub returns-in-Err-clause-closes : goal.returns-in-Err-clause-closes
+returns-in-Err-clause-closes g c =
+    failed_if_closed (state c.args.self.now.pager) (state c.flush.new.self.pager) c.args.self.now.is_found c.flush.new.self.is_found c.flush.ensures.goes_on.keeps.stays c.flush.ensures.goes_on.found
+
+pub returns-in-Err-commit-clause-closes : goal.returns-in-Err-commit-clause-closes
+returns-in-Err-commit-clause-closes g c =
+    failed_if_closed (state c.args.self.now.pager) (state c.commit.new.self) c.args.self.now.is_found c.flush.new.self.is_found
+    (StaysOrFails-trans (state c.args.self.now.pager) (state c.flush.new.self.pager) (state c.commit.new.self) c.flush.ensures.goes_on.keeps.stays c.commit.ensures.crash.stays) c.flush.ensures.goes_on.found
+
+pub returns-clause-closes : goal.returns-clause-closes
+returns-clause-closes g c = λ was shut. absurd (shut (c.in_default-commit.ensures.ready, c.flush.ensures.goes_on.found ∙ c.in_ok-check_open.ensures.1))

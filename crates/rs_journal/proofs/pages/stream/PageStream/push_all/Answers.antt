@@ -8,7 +8,7 @@ use Rattle.rs_journal.proofs.pages.stream.PageStream.push_all.Goals as goal
 pub loop-from-init : goal.loop-from-init
 loop-from-init g c = record {
   within = omega arith;
-  goes_on = goes_on_same c.args.self.now c.args.self.now refl refl;
+  goes_on = goes_on_same c.args.self.now c.args.self.now refl refl refl;
   pushed = λ standing seen holds. subst (λ (s : List ℕ). Holds c.args.self.now standing s) (sym (append-nil seen)) holds;
 }
 
@@ -16,7 +16,7 @@ pub returns-in_err-pushed-clause-goes_on : goal.returns-in_err-pushed-clause-goe
 returns-in_err-pushed-clause-goes_on g c = goes_on_trans c.args.self.now c.loop-from.self c.push_part.new.self c.loop-from.invariant.goes_on c.push_part.ensures.goes_on
 
 pub returns-in_err-check_open-clause-goes_on : goal.returns-in_err-check_open-clause-goes_on
-returns-in_err-check_open-clause-goes_on g c = goes_on_same c.args.self.now _ refl refl
+returns-in_err-check_open-clause-goes_on g c = goes_on_same c.args.self.now _ refl refl refl
 
 pub returns-clause-open : goal.returns-clause-open
 returns-clause-open g c = c.in_ok-check_open.ensures

@@ -13,3 +13,6 @@ returns-clause-crash g c = adds_nothing c.args.self.now c.rollback.new.self c.ro
 
 pub returns-clause-closed : goal.returns-clause-closed
 returns-clause-closed g c = λ shut. record { closed = λ h. shut (sym c.rollback.ensures.ready ∙ h.0, h.1); files = c.rollback.ensures.files; outcomes = adds_nothing c.args.self.now c.rollback.new.self c.rollback.ensures.keeps }
+
+pub returns-clause-faults : goal.returns-clause-faults
+returns-clause-faults g c = c.rollback.ensures.faults
