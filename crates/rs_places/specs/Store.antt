@@ -66,8 +66,8 @@ pub record IsSettled (places : ℕ) (entries : List Entry) (lines : List Closed)
 abbrev pub IsUnsettled : List Entry → List Closed → Type 0
 IsUnsettled entries lines = ¬ (sent_in_all lines ≡ length entries)
 
--- Why the writer ended that took these entries of what these lines sent: it took the End of each line, and so all that they sent; or so
--- many that one more job could have more than it can count; or a receive failed, of which no more is known
+-- What is known by why the writer ended that took these entries of what these lines sent: all that they sent was taken; or so many were that
+-- one more job could have more than it can count; or a receive failed, of which no more is known
 abbrev pub IsEndOfRun : List Entry → List Closed → Cause → Type 0
 IsEndOfRun taken lines AllEnded = AreTaken taken lines
 IsEndOfRun taken lines MostTaken = 2 ^ 64 ≤ length taken + MAX_CHANGES

@@ -30,8 +30,7 @@ use std::sync::{Arc, Wait};
 
 /// A client's gate to a store that other clients use too. It stands for the list that it knows, which is legal, and for no other.
 ///
-/// The changes that it is told to expect go to the writer at once, in one job, if memory allows, and the outcome of each is told when its
-/// own submit comes.
+/// It may send the changes that it is told to expect at once, in one job. The outcome of each is told when its own submit comes.
 ///
 /// It keeps the handle `rt`, by which changes wait for space in the queue, a submit for its receipt, and `hand_on` for the replies to what
 /// was sent ahead. An answer to a filter waits for nobody, if the gate has a seat of its own. If it shares seats, and all are taken, the
