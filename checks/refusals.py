@@ -1,5 +1,5 @@
-"""Looks where the sources make an *out of memory*, or a `Gone`: in the branch of a call that
-failed, or below a comment that says why.
+"""Looks where the sources make an *out of memory*, a `Gone`, or a submit that is `Open` or
+`Closed`: in the branch of a call that failed, or below a comment that says why.
 
 Contracts cannot see the allocator or the other end of a channel, so they allow a function to answer
 so at any time.
@@ -15,7 +15,7 @@ from harness.words import given_words
 ROOT = Path(__file__).resolve().parent.parent
 # A refusal as a value, and not as the pattern of an arm or a part of a type.
 MADE = re.compile(
-    r"\b(?:(?:AllocError|NoMemory)\b(?=[),;]|$)(?!.*=>)|Gone(?: \{ |::)|RecvError\b(?=[),;]))"
+    r"\b(?:(?:AllocError|NoMemory)\b(?=[),;]|$)(?!.*=>)|Gone(?: \{ |::)|RecvError\b(?=[),;])|of_refused\(|SubmitFault::(?:Open|Closed)\b(?!.*=>))"
 )
 # What imports, clauses and types say of it.
 SAID = re.compile(
@@ -23,7 +23,7 @@ SAID = re.compile(
 )
 # On the line itself: a refusal is passed on, under another name or under its own.
 PASSED_ON = re.compile(
-    r"(?:\bErr\(.*|\w*NoMemory\b.*|OutOfMemory\b.*|Disconnected) => |map_err\(\|_\| "
+    r"(?:\bErr\(.*|\w*NoMemory\b.*|PutFault::Held|OutOfMemory\b.*|Disconnected) => |map_err\(\|_\| "
 )
 # What opens the block around it: the branch of a call that failed, or a function that converts a
 # refusal.

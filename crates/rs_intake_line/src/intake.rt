@@ -110,6 +110,7 @@ impl<N: LineName> Intake<N> {
         let entry = line.send(rt, operation)?;
         match line.receive(rt) {
             Some(reply) => read_reply(reply, &entry),
+            // Refused: the reply. The receive has failed.
             None => Err(SubmitFault::Open),
         }
     }

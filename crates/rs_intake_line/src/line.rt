@@ -398,6 +398,7 @@ impl<N: LineName> SeatLine<N> {
         if self.line.send_changes(rt, changes) {
             Ok(entry)
         } else {
+            // Refused: the job. The send has failed.
             Err(SubmitFault::Closed)
         }
     }
