@@ -6,3 +6,4 @@ pub mod OpenLemmas
 pub mod CrashLemmas
 pub mod FrameLemmas
 pub mod RetainedLemmas
+pub mod RestartLemmas

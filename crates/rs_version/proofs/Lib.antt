@@ -1,3 +1,4 @@
+pub mod First
 pub mod HistoryRule
 pub mod Memory
 pub mod Origins
