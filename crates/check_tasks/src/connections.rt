@@ -324,7 +324,7 @@ pub fn work<H: Wait + Threads + Copy + Send + Sync + 'static>(
     let mut turns = Vec::new(alloc);
     turns.push(FreeTurn::new(turn))?;
     let runner = Runner::<NoWatch>::OneEach;
-    let Ok(end) = run_store(*rt, alloc, blank, Vec::new(alloc), queue, turns, runner) else {
+    let Ok(end) = run_store(*rt, alloc, blank, queue, turns, runner) else {
         return Err(Failure::NoMemory);
     };
     check(end.changes.is_some())?;

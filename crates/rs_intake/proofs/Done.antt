@@ -1,5 +1,5 @@
 -- What was done with the entries that the writer took, one after the other.
-use Rattle.std.proofs.Common.{◌≡◌, ℕ, zero, suc, ◌+◌, Bool, true, false, cond, All, ◌<◌, ◌≤◌, ◌||◌, List, [], ◌∷◌, ◌++◌, length, map, inl, inr, refl, sym, ap, subst, ◌∙◌, append_assoc, length-append, Ok, Err, OnOk, IfOk, IfErr, arith}
+use Rattle.std.proofs.Common.{◌≡◌, ℕ, zero, suc, ◌+◌, Bool, true, false, cond, All, ◌<◌, ◌≤◌, ◌||◌, List, [], ◌∷◌, ◌++◌, length, map, inl, inr, refl, sym, ap, subst, ◌∙◌, append_assoc, length-append, zero-add, Ok, Err, OnOk, IfOk, IfErr, arith}
 use Rattle.std.specs.List.{AllByRecursion, filter}
 use Rattle.std.proofs.lemmas.List.{append-nil}
 use Rattle.std.proofs.lemmas.List.Elements.{filter-append}
@@ -7,7 +7,6 @@ use Rattle.rs_message.specs.Messages.{is_sweep}
 use Rattle.rs_message.specs.declared.entry.Entry.{Entry}
 use Rattle.rs_store.specs.Adding.{Adds}
 use Rattle.rs_store.specs.History.{SerialsRise, cleaned, extended}
-use Rattle.rs_version.specs.First.{AreOwn}
 use Rattle.rs_version.specs.Writer.{Refuses, Written, kept_of, shows}
 use Rattle.rs_version.specs.declared.fault.PutFault.TheVariants.{Full, Held, NoMemory, Stale}
 use Rattle.rs_intake_queue.specs.Changes.{AreOf, AreOfOneJob, ArePlain, place_of_all}
@@ -16,8 +15,7 @@ use Rattle.rs_intake_queue.specs.Parts.{IsPart}
 use Rattle.rs_intake_line.specs.Sending.{AreToPut, ArePut}
 use Rattle.rs_intake_line.specs.Sweeps.{AreForEntries, IsKeptFrom, IsSweptAtMost, without_sweeps}
 use Rattle.rs_intake_queue.proofs.Parts.{all_append, part_front, part_rises}
-use Rattle.rs_intake.proofs.First.{kept_from_first, own_plain, own_sweeps}
-use Rattle.rs_intake.proofs.Sweeps.{entry_rises, adds_kept, held_kept, no_memory_kept, kept_from_entry, kept_from_refused, released_kept, sweeps_entry, sweeps_refused, without_cleaned, without_more}
+use Rattle.rs_intake.proofs.Sweeps.{entry_rises, adds_kept, held_kept, no_memory_kept, kept_from_entry, kept_from_refused, kept_from_start, released_kept, without_cleaned, without_more}
 
 -- ---- a put
 
@@ -159,34 +157,11 @@ all_kept_from limit before (entry ∷ entries) (outcome ∷ outcomes) kept kept'
       (let n = one.1 in let m = rest.1 in let r = refused_more outcome outcomes in omega (arith, n, m, r)),
     )
 
-one_sweeps : (limit : ℕ) (entries kept : List Entry) (entry : Entry) (outcome : Outcome) (kept' : List Entry) → AreForEntries limit entries kept → is_sweep entry.operation ≡ false → IsDone limit kept entry outcome kept'
-    → AreForEntries limit (entries ++ entry ∷ []) kept'
-one_sweeps limit entries kept entry outcome kept' a plain is = go (is_refused outcome) refl
-  where
-    go : (b : Bool) → is_refused outcome ≡ b → AreForEntries limit (entries ++ entry ∷ []) kept'
-    go false stays = sweeps_entry limit entries kept kept' entry a plain (adds_if_done limit kept entry outcome kept' is stays)
-    go true goes = sweeps_refused limit entries kept kept' entry a (swept_if_done limit kept entry outcome kept' is goes)
-
-pub all_sweeps : (limit : ℕ) (before entries : List Entry) (outcomes : List Outcome) (kept kept' : List Entry) → AreForEntries limit before kept → All (λ e. is_sweep e.operation ≡ false) entries → AreDone limit kept entries outcomes kept'
-    → AreForEntries limit (before ++ entries) kept'
-all_sweeps limit before [] [] kept kept' a plain are =
-    let P : List Entry → Type 0 = λ l. AreForEntries limit l kept' in
-    let Q : List Entry → Type 0 = λ l. AreForEntries limit before l in
-    subst P (sym (append-nil before)) (subst Q (sym are) a)
-all_sweeps limit before [] (outcome ∷ outcomes) kept kept' a plain are = absurd are
-all_sweeps limit before (entry ∷ entries) [] kept kept' a plain are = absurd are
-all_sweeps limit before (entry ∷ entries) (outcome ∷ outcomes) kept kept' a plain are =
-    let one = one_sweeps limit before kept entry outcome are.0 a (plain 0 entry (omega arith)) are.1 in
-    let P : List Entry → Type 0 = λ l. AreForEntries limit l kept' in
-    subst P (append_assoc before (entry ∷ []) entries) (all_sweeps limit (before ++ entry ∷ []) entries outcomes are.0 kept' one (λ k d lt. plain (suc k) d (omega (arith, lt))) are.2)
-
-pub kept_by_outcomes : (limit : ℕ) (first entries kept : List Entry) (outcomes : List Outcome) → AreOwn first → SerialsRise first → All (λ e. is_sweep e.operation ≡ false) entries → AreDone limit first entries outcomes kept
-    → IsPart (without_sweeps kept) (first ++ entries) × (length (without_sweeps kept) + refused_in outcomes ≡ length entries + length first) × AreForEntries limit entries kept
-kept_by_outcomes limit first entries kept outcomes own rises plain are =
-    let all = all_kept_from limit first entries outcomes first kept (kept_from_first limit first own rises) plain are in
-    let sum = all.1 in
-    let n = ap length (own_plain first own) in
-    (all.0.part, omega (arith, sum, n), all_sweeps limit [] entries outcomes first kept (own_sweeps limit [] first own) plain are)
+pub kept_by_outcomes : (limit : ℕ) (entries kept : List Entry) (outcomes : List Outcome) → All (λ e. is_sweep e.operation ≡ false) entries → AreDone limit [] entries outcomes kept
+    → IsPart (without_sweeps kept) entries × (length (without_sweeps kept) + refused_in outcomes ≡ length entries) × AreForEntries limit entries kept
+kept_by_outcomes limit entries kept outcomes plain are =
+    let all = all_kept_from limit [] entries outcomes [] kept (kept_from_start limit [] [] refl refl) plain are in
+    (all.0.part, all.1 ∙ zero-add (length entries), all.0.sweeps)
 
 -- ---- the changes of one job
 

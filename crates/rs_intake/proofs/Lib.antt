@@ -1,4 +1,3 @@
-pub mod First
 pub mod Sweeps
 pub mod Telling
 pub mod Done

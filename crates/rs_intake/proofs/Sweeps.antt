@@ -10,12 +10,12 @@ use Rattle.rs_message.specs.declared.entry.Entry.{Entry}
 use Rattle.rs_store.specs.Adding.{Adds}
 use Rattle.rs_store.specs.History.{IsLegal, NeedsSweepAfter, SerialsRise, cleaned, extended, last_serial, serials_of, sweep_after}
 use Rattle.rs_store.proofs.Histories.{last_is_above, legal_front, serials_rise_more}
-use Rattle.rs_store.proofs.Needed.{all_needed, needed_cleaned, needed_more, needed_weaker}
+use Rattle.rs_store.proofs.Needed.{all_needed, needed_cleaned, needed_more, needed_none, needed_weaker}
 use Rattle.rs_version.specs.Writer.{Refuses, Written, kept_of, released, shows}
 use Rattle.rs_version.specs.declared.fault.PutFault.TheVariants.{Held, NoMemory}
 use Rattle.rs_intake_queue.specs.Parts.{IsPart}
 use Rattle.rs_intake_line.specs.Sweeps.{AreForEntries, IsKeptFrom, IsSweptAtMost, without_sweeps}
-use Rattle.rs_intake_queue.proofs.Parts.{part_both, part_rises, part_skip}
+use Rattle.rs_intake_queue.proofs.Parts.{part_both, part_rises, part_skip, rises_none}
 
 -- ---- without the Sweeps
 
@@ -67,23 +67,6 @@ last_entry entries entry = Contains-append_right entries (entry ∷ []) entry (0
 sweeps_cleaned : (limit : ℕ) (entries kept : List Entry) (entry : Entry) → AreForEntries limit entries kept → (s : NeedsSweepAfter limit kept entry) → AreForEntries limit (entries ++ entry ∷ []) (cleaned s.message.received kept)
 sweeps_cleaned limit entries kept entry a s = record { needed = needed_cleaned limit (Contains (entries ++ entry ∷ [])) kept entry (last_entry entries entry) s (sweeps_more limit entries kept entry a).needed }
 
--- the same of the list after the entry, and after one that is not kept
-pub sweeps_entry : (limit : ℕ) (entries kept kept' : List Entry) (entry : Entry) → AreForEntries limit entries kept → is_sweep entry.operation ≡ false → Adds limit kept entry (λ list. kept' ≡ list) → AreForEntries limit (entries ++ entry ∷ []) kept'
-sweeps_entry limit entries kept kept' entry a plain (inl adds) =
-    let P : List Entry → Type 0 = λ l. AreForEntries limit (entries ++ entry ∷ []) l in
-    subst P (sym adds.1) (sweeps_with_entry limit (entries ++ entry ∷ []) kept entry plain (sweeps_more limit entries kept entry a))
-sweeps_entry limit entries kept kept' entry a plain (inr adds) =
-    let P : List Entry → Type 0 = λ l. AreForEntries limit (entries ++ entry ∷ []) l in
-    subst P (sym adds.1) (sweeps_with_entry limit (entries ++ entry ∷ []) (cleaned adds.0.message.received kept) entry plain (sweeps_cleaned limit entries kept entry a adds.0))
-
-pub sweeps_refused : (limit : ℕ) (entries kept kept' : List Entry) (entry : Entry) → AreForEntries limit entries kept → IsSweptAtMost limit kept entry kept' → AreForEntries limit (entries ++ entry ∷ []) kept'
-sweeps_refused limit entries kept kept' entry a (inl same) =
-    let P : List Entry → Type 0 = λ l. AreForEntries limit (entries ++ entry ∷ []) l in
-    subst P (sym same) (sweeps_more limit entries kept entry a)
-sweeps_refused limit entries kept kept' entry a (inr swept) =
-    let P : List Entry → Type 0 = λ l. AreForEntries limit (entries ++ entry ∷ []) l in
-    subst P (sym swept.1) (sweeps_cleaned limit entries kept entry a swept.0)
-
 -- an entry whose serial rises among the entries rises among what is kept
 pub entry_rises : (limit : ℕ) (entries kept : List Entry) (entry : Entry) → IsKeptFrom limit entries kept → 0 < entry.origin.place → 0 < entry.origin.serial → SerialsRise (entries ++ entry ∷ []) → SerialsRise (extended kept entry)
 entry_rises limit entries kept entry s place serial rises =
@@ -105,7 +88,7 @@ kept_from_entry limit entries kept kept' entry s plain (inl a) =
     subst P (sym a.1) (
       record {
         part = subst Q (sym without) (part_both (without_sweeps kept) entries entry s.part);
-        sweeps = sweeps_entry limit entries kept (extended kept entry) entry s.sweeps plain (inl (a.0, refl));
+        sweeps = sweeps_with_entry limit (entries ++ entry ∷ []) kept entry plain (sweeps_more limit entries kept entry s.sweeps);
         rises = a.0.rises;
       },
       ap length without ∙ length-append (without_sweeps kept) (entry ∷ []),
@@ -118,7 +101,7 @@ kept_from_entry limit entries kept kept' entry s plain (inr a) =
     subst P (sym a.1) (
       record {
         part = subst Q (sym without) (part_both (without_sweeps kept) entries entry s.part);
-        sweeps = sweeps_entry limit entries kept (extended clean entry) entry s.sweeps plain (inr (a.0, refl));
+        sweeps = sweeps_with_entry limit (entries ++ entry ∷ []) clean entry plain (sweeps_cleaned limit entries kept entry s.sweeps a.0);
         rises = a.0.legal.rises;
       },
       ap length without ∙ length-append (without_sweeps kept) (entry ∷ []),
@@ -153,6 +136,13 @@ kept_from_refused limit entries kept kept' entry s (inr a) =
       },
       ap length without,
     )
+
+pub kept_from_start : (limit : ℕ) (entries kept : List Entry) → entries ≡ [] → kept ≡ [] → IsKeptFrom limit entries kept
+kept_from_start limit entries kept no_jobs none =
+    let start : IsKeptFrom limit [] [] = record { part = tt; sweeps = record { needed = needed_none limit (Contains []) }; rises = rises_none } in
+    let Q : List Entry → Type 0 = λ k. IsKeptFrom limit entries k in
+    let R : List Entry → Type 0 = λ j. IsKeptFrom limit j [] in
+    subst Q (sym none) (subst R (sym no_jobs) start)
 
 -- ---- what a put leaves
 

@@ -1,9 +1,8 @@
 //! The writer's loop over the queue. It stands apart from [`JobWriter`], whose fields it cannot see, so all that it can do with one is to
 //! let it make its steps.
 
-ghost use Rattle.std.specs.Prelude.{◌≡◌, ◌+◌, ◌++◌, length};
+ghost use Rattle.std.specs.Prelude.{◌≡◌, ◌+◌, [], length};
 ghost use Rattle.std.specs.Option.{option_map};
-ghost use Rattle.rs_version.specs.First.{AreOwn};
 ghost use Rattle.rs_version.specs.Writer.{kept_of};
 ghost use Rattle.rs_intake_line.specs.Done.{IsWritten};
 ghost use Rattle.rs_intake.specs.Causes.{IsCause};
@@ -23,28 +22,28 @@ use std::sync::Wait;
 /// - the receive of a job fails, or
 /// - it has taken so many entries that one more job could have more than can be counted.
 ///
-/// Then it tries once more to publish a held entry, of which no clause speaks. The writer kept nothing yet but what its store began with.
+/// Then it tries once more to publish a held entry, of which no clause speaks.
 ///
 /// The contract says what became of each entry that was asked for (`done`). It makes no difference which of them came in one job. There
 /// is one outcome for each entry that was taken, in their order. After a receipt, or if the entry is held, the kept list is
 /// the one before, then the Sweep that the entry needs, if it needs one, then the entry. After a full store the list is the same, and the
 /// entry may not come. If memory was refused, the list is the same, or has the Sweep that the entry needs. So what the writer keeps,
-/// without its Sweeps, is what it began with, and then the entries that were not refused, in their order (`IsWritten`), and each Sweep is
-/// the one that one of these entries needed there (`sweeps`). By the way back to each place, the replies to its entries were sent, in their order: all of them,
+/// without its Sweeps, is the entries that were not refused, in their order (`IsWritten`), and each Sweep is the one that one of these
+/// entries needed there (`sweeps`). By the way back to each place, the replies to its entries were sent, in their order: all of them,
 /// unless a send failed, and then a prefix. No entry is of a place beyond 1 to the number of places (`placed`).
 pub fn run_writer<N: LineName, R: Wait + Drop, W: Wait>(
     rt: &W,
     queue: Queue<N>,
     writer: VersionWriter<N, R>,
 ) -> Ended<N, R>
-    requires own { AreOwn (kept_of writer) }
-    ensures part { IsPart (without_sweeps (kept_of result.writer)) (kept_of writer ++ result.received.entries) }
+    requires empty { kept_of writer ≡ [] }
+    ensures part { IsPart (without_sweeps (kept_of result.writer)) result.received.entries }
     ensures placed { AreOfPlaces N.places result.received.entries }
     ensures taken { result.taken ≡ length result.received.entries }
-    ensures refused { length (without_sweeps (kept_of result.writer)) + result.refused ≡ result.taken + length (kept_of writer) }
+    ensures refused { length (without_sweeps (kept_of result.writer)) + result.refused ≡ result.taken }
     ensures sweeps { AreForEntries N.limit result.received.entries (kept_of result.writer) }
     ensures held { result.held ≡ option_map (λ e. e.origin) result.writer.held }
-    ensures done { IsWritten N.limit N.places (kept_of writer) result.received.entries (kept_of result.writer) result.ways.items }
+    ensures done { IsWritten N.limit N.places result.received.entries (kept_of result.writer) result.ways.items }
     ensures cause { IsCause N.places u64.MAX result.received result.cause }
 {
     run_writer_for(rt, queue, writer, u64::MAX)
@@ -57,18 +56,18 @@ pub fn run_writer_for<N: LineName, R: Wait + Drop, W: Wait>(
     writer: VersionWriter<N, R>,
     most: u64,
 ) -> Ended<N, R>
-    requires own { AreOwn (kept_of writer) }
-    ensures part { IsPart (without_sweeps (kept_of result.writer)) (kept_of writer ++ result.received.entries) }
+    requires empty { kept_of writer ≡ [] }
+    ensures part { IsPart (without_sweeps (kept_of result.writer)) result.received.entries }
     ensures placed { AreOfPlaces N.places result.received.entries }
     ensures taken { result.taken ≡ length result.received.entries }
-    ensures refused { length (without_sweeps (kept_of result.writer)) + result.refused ≡ result.taken + length (kept_of writer) }
+    ensures refused { length (without_sweeps (kept_of result.writer)) + result.refused ≡ result.taken }
     ensures sweeps { AreForEntries N.limit result.received.entries (kept_of result.writer) }
     ensures held { result.held ≡ option_map (λ e. e.origin) result.writer.held }
-    ensures done { IsWritten N.limit N.places (kept_of writer) result.received.entries (kept_of result.writer) result.ways.items }
+    ensures done { IsWritten N.limit N.places result.received.entries (kept_of result.writer) result.ways.items }
     ensures cause { IsCause N.places most result.received result.cause }
 {
     let mut writer = JobWriter::new(queue, writer);
-    for _step in rt.forever() {
+    for _ in rt.forever() {
         if let Some(cause) = writer.step(rt, most) {
             return writer.end(cause);
         }

@@ -3,7 +3,6 @@
 ghost use Rattle.std.specs.Prelude.{◌≡◌, ◌+◌, ◌<◌, ◌≤◌, ◌^◌, ◌⊎◌, [], length, replicate, IfNone, IfSome, MatchBool, Some};
 ghost use Rattle.std.specs.Option.{option_map};
 ghost use Rattle.crossbeam_channel.specs.Ends.{receives_on};
-ghost use Rattle.rs_version.specs.First.{AreOwn};
 ghost use Rattle.rs_version.specs.Writer.{kept_of};
 ghost use Rattle.rs_intake_line.specs.Done.{untold};
 ghost use Rattle.rs_intake.specs.Causes.{HaveEnded, IsCause};
@@ -22,7 +21,6 @@ use rs_message::Origin;
 use rs_metrics::WriterMeter;
 use rs_version::VersionWriter;
 use std::marker::Model;
-use std::snapshot::Snapshot;
 use std::sync::Wait;
 
 /// The writer's end of the queue, from which nothing was taken.
@@ -142,15 +140,13 @@ fn show<N: LineName, R: Wait + Drop>(
     }
 }
 
-/// A writer at its queue. It takes one job at a time. Contracts see what it kept when it began, what it published and holds, what it took,
-/// what it sent by the ways back, and how many entries it took and refused.
+/// A writer at its queue. It takes one job at a time. Contracts see what it published and holds, what it took, what it sent by the ways back,
+/// and how many entries it took and refused.
 ///
-/// At every moment what it keeps came of what it kept when it began by the outcomes of just what it took, and these outcomes were sent to
-/// the lines, unless a send failed (`IsUnderWay`).
+/// At every moment what it keeps came to be by the outcomes of just what it took, and these outcomes were sent to the lines, unless a send
+/// failed (`IsUnderWay`).
 #[derive(Drop)]
 pub struct JobWriter<N: LineName, R: Wait + Drop> {
-    // The writer when it began.
-    began: Snapshot<VersionWriter<N, R>>,
     writer: VersionWriter<N, R>,
     receiver: JobReceiver,
     received: Taken<N>,
@@ -166,24 +162,22 @@ pub struct JobWriter<N: LineName, R: Wait + Drop> {
 impl<N: LineName, R: Wait + Drop> Model for JobWriter<N, R> {
     ghost use Rattle.std.specs.Prelude.{◌≡◌, ◌+◌, length};
     ghost use Rattle.crossbeam_channel.specs.Ends.{receives_on};
-    ghost use Rattle.rs_version.specs.Writer.{kept_of};
     ghost use Rattle.rs_intake_line.specs.Names.{IsQueue};
     ghost use Rattle.rs_intake.specs.Writers.{IsUnderWay, WriterValue};
 
     ghost Value = { WriterValue };
 
-    ghost view = { λ w. record { first = kept_of w.began.value; writer = w.writer; received = w.received; ways = w.ways.senders.items; taken = w.taken; refused = w.refused } };
+    ghost view = { λ w. record { writer = w.writer; received = w.received; ways = w.ways.senders.items; taken = w.taken; refused = w.refused } };
 
     ghost invariant = { λ w. IsQueue N.queue (receives_on w.receiver)
-        × IsUnderWay N.limit N.places record { first = kept_of w.began.value; writer = w.writer; received = w.received; ways = w.ways.senders.items; taken = w.taken; refused = w.refused }
+        × IsUnderWay N.limit N.places record { writer = w.writer; received = w.received; ways = w.ways.senders.items; taken = w.taken; refused = w.refused }
         × (w.left + length w.received.ends ≡ N.places) };
 }
 
 impl<N: LineName, R: Wait + Drop> JobWriter<N, R> {
-    /// A writer that kept nothing yet but what its store began with, at a queue from which nothing was taken.
-    pub fn new(queue: Queue<N>, mut writer: VersionWriter<N, R>) -> JobWriter<N, R>
-        requires own { AreOwn (kept_of writer) }
-        ensures first { result.first ≡ kept_of writer }
+    /// A writer that kept nothing, at a queue from which nothing was taken.
+    pub fn new(queue: Queue<N>, writer: VersionWriter<N, R>) -> JobWriter<N, R>
+        requires empty { kept_of writer ≡ [] }
         ensures writer { result.writer ≡ writer }
         ensures received { (result.received.entries ≡ []) × (result.received.ends ≡ []) }
         ensures ways { result.ways ≡ replicate N.places untold }
@@ -199,10 +193,7 @@ impl<N: LineName, R: Wait + Drop> JobWriter<N, R> {
         } = queue;
         let left = received.places();
         meter.set_taking(true);
-        // For the proof: this call says that the kept list is legal.
-        writer.note_covered(&writer.tell());
         JobWriter {
-            began: Snapshot::of(&writer),
             writer,
             receiver,
             received,
@@ -268,7 +259,6 @@ impl<N: LineName, R: Wait + Drop> JobWriter<N, R> {
         ensures under_way { IsUnderWay N.limit N.places self }
     {
         let JobWriter {
-            began: _began,
             mut writer,
             receiver: _receiver,
             received,

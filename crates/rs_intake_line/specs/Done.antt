@@ -136,12 +136,12 @@ pub record AreTold (places : ℕ) (replies : List ReplyValue) (ways : List Told)
   pub each : (place : ℕ) → 0 < place → place ≤ places
       → AreSent (replies_for place replies) (way_to place ways).sent (way_to place ways).gone
 
--- There are outcomes, one for each entry, in their order, by which this list came of the first one, and by these ways back each place was
--- told those of its own entries. Without its Sweeps the list is the first one, and then the entries that were not refused
-pub record IsWritten (limit places : ℕ) (first entries kept : List Entry) (ways : List Told) : Type 0 where
+-- There are outcomes, one for each entry, in their order, by which this list came to be, and by these ways back each place was told those
+-- of its own entries. Without its Sweeps the list is the entries that were not refused
+pub record IsWritten (limit places : ℕ) (entries kept : List Entry) (ways : List Told) : Type 0 where
   pub outcomes : List Outcome
-  pub done : AreDone limit first entries outcomes kept
-  pub changes : without_sweeps kept ≡ first ++ not_refused entries outcomes
+  pub done : AreDone limit [] entries outcomes kept
+  pub changes : without_sweeps kept ≡ not_refused entries outcomes
   pub told : AreTold places (replies_to entries outcomes) ways
 
 -- There are outcomes of these entries, one for each, in their order, which say what was done with them, one after the other; these are the

@@ -6,4 +6,3 @@ pub mod OpenLemmas
 pub mod CrashLemmas
 pub mod FrameLemmas
 pub mod RetainedLemmas
-pub mod RestartLemmas

@@ -19,7 +19,7 @@ mod switched;
 pub use fault::{ReadFault, WriteFault};
 pub use files::OpenFiles;
 pub use journal::Journal;
-pub use law::{image_law, journal_law, restart_law};
+pub use law::{image_law, journal_law};
 pub use pages::OpenFault;
 pub use retained::Retained;
 pub use sink::OperationSink;

@@ -28,9 +28,9 @@ gates_of [] lines = []
 gates_of (seat ∷ seats) [] = []
 gates_of (seat ∷ seats) (line ∷ lines) = handed_on seat line ∷ gates_of seats lines
 
--- the gates of so many new places, from 1 on, of a store that begins with this list. They know just that, and sent nothing
-abbrev pub new_gates : List Entry → ℕ → List SharedValue
-new_gates first places = map (λ line. handed_on first line) (new_lines places)
+-- the gates of so many new places, from 1 on. They know nothing, and sent nothing
+abbrev pub new_gates : ℕ → List SharedValue
+new_gates places = map (λ line. handed_on [] line) (new_lines places)
 
 -- What a place's line sent, over a store with this history, whose writer took these entries.
 pub record IsLineOf (history entries : List Entry) (line : Closed) : Type 0 where
@@ -73,39 +73,37 @@ IsEndOfRun taken lines AllEnded = AreTaken taken lines
 IsEndOfRun taken lines MostTaken = 2 ^ 64 ≤ length taken + MAX_CHANGES
 IsEndOfRun taken lines (QueueGone gone) = Unit {0}
 
--- The writer of a run over so many places, whose store began with this list, published so many entries.
-pub record IsWriterRun (limit places : ℕ) (first : List Entry) (version : ℕ) : Type 0 where
-  -- There is one legal history, the list that the writer keeps, which begins with the first list. So many entries of it were published,
-  -- from the first on: all, or all but the last, which is held then. It would be published before any other.
+-- The writer of a run over so many places published so many entries.
+pub record IsWriterRun (limit places version : ℕ) : Type 0 where
+  -- There is one legal history, the list that the writer keeps. So many entries of it were published, from the first on: all, or all but
+  -- the last, which is held then. It would be published before any other.
   pub history : List Entry
   pub legal : IsLegal limit history
-  pub begins : Extends history first
   pub published : List Entry
   pub held : Option Entry
   pub whole : history ≡ published ++ listed held
   pub entries : version ≡ length published
-  -- The writer took these entries, and each has an outcome. By these the history came of the first list. All of it but the Sweeps are the
-  -- first list, and then the entries that were not refused.
+  -- The writer took these entries, and each has an outcome. By these the history came to be. All of it but the Sweeps are the entries that
+  -- were not refused.
   pub taken : List Entry
   pub outcomes : List Outcome
-  pub done : AreDone limit first taken outcomes history
-  pub not_refused_are : without_sweeps history ≡ first ++ not_refused taken outcomes
+  pub done : AreDone limit [] taken outcomes history
+  pub not_refused_are : without_sweeps history ≡ not_refused taken outcomes
   -- the entries that it took are of these places alone
   pub placed : AreOfPlaces places taken
   -- so of each place it has what was taken of the place less what was refused
-  pub not_refused_of : (place : ℕ) → of_place place (without_sweeps history) ≡ of_place place (first ++ not_refused taken outcomes)
+  pub not_refused_of : (place : ℕ) → of_place place (without_sweeps history) ≡ of_place place (not_refused taken outcomes)
 
--- A store that began with this list was run over so many new places, each of them a client's line. Each place served its turn, from that
--- before to that after; the writer published so many entries, and ended for this cause; and so many changes are settled, or it is known
--- that not all were taken. Nothing is said of seats and of threads, of which there may be fewer.
-pub record IsStoreRun (limit places : ℕ) (first : List Entry) (before after : List Connections) (version : ℕ) (changes : Option ℕ)
-    (cause : Cause) : Type 0 where
+-- A store of so many new places was run, each of them a client's line. Each place served its turn, from that before to that after; the
+-- writer published so many entries, and ended for this cause; and so many changes are settled, or it is known that not all were taken.
+-- Nothing is said of seats and of threads, of which there may be fewer.
+pub record IsStoreRun (limit places : ℕ) (before after : List Connections) (version : ℕ) (changes : Option ℕ) (cause : Cause) : Type 0 where
   -- the history, and what the writer took and published
-  pub writer : IsWriterRun limit places first version
+  pub writer : IsWriterRun limit places version
   pub open writer use *
   -- of each place: its connections, what they saw, what they sent, and what became of that
   pub left : List Left
-  pub each : AllZip (IsPlaceOf limit history taken) (places_of before (new_gates first places)) left
+  pub each : AllZip (IsPlaceOf limit history taken) (places_of before (new_gates places)) left
   pub count : length left ≡ places
   pub turns : after ≡ map (λ end. end.connections) left
   pub ended : IsEndOfRun taken (map (λ end. end.line) left) cause

@@ -15,9 +15,6 @@ pub enum ListenFault {
     /// The address for metrics is not an address, is in use, or may not be bound.
     #[error("the address for metrics cannot be listened on: {0}")]
     Metrics(io::Error),
-    /// More messages are given than topics may hold one.
-    #[error("more topics are given than the store may hold; raise the limit")]
-    TooManyTopics,
     /// Memory was refused.
     #[error("out of memory")]
     NoMemory,
@@ -47,7 +44,6 @@ impl From<StoreFault> for ListenFault {
     fn from(fault: StoreFault) -> ListenFault {
         match fault {
             StoreFault::NoMemory => ListenFault::NoMemory,
-            StoreFault::TooManyTopics => ListenFault::TooManyTopics,
             StoreFault::NoThread => ListenFault::NoThread,
         }
     }

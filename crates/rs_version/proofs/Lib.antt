@@ -1,4 +1,3 @@
-pub mod First
 pub mod HistoryRule
 pub mod Memory
 pub mod Origins

@@ -3,7 +3,6 @@ pub mod Receipts
 pub mod Catalogues
 pub mod Codes
 pub mod Copies
-pub mod First
 pub mod VersionRule
 pub mod HistoryRule
 pub mod Values

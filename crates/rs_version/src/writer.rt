@@ -251,15 +251,15 @@ impl<N: StoreName, R: Wait + Drop> VersionWriter<N, R> {
         Ok(())
     }
 
-    /// Appends an entry that may come next, and publishes it. Refused, it is held or not kept.
-    pub(crate) fn put_legal(&mut self, entry: Entry) -> Result<(), AllocError>
+    /// Appends a Sweep and publishes it. Refused, it is held or not kept.
+    fn put_sweep(&mut self, sweep: Entry) -> Result<(), AllocError>
         requires none { self.old.held ≡ None }
-        requires legal { IsLegal N.limit (extended self.old.published entry) }
+        requires legal { IsLegal N.limit (extended self.old.published sweep) }
         ensures { MatchResult result
-            (λ _. self.new ≡ shows (extended self.old.published entry))
-            (λ _. (self.new ≡ self.old) ⊎ (self.new ≡ holds_back self.old.published entry)) }
+            (λ _. self.new ≡ shows (extended self.old.published sweep))
+            (λ _. (self.new ≡ self.old) ⊎ (self.new ≡ holds_back self.old.published sweep)) }
     {
-        self.append(entry)?;
+        self.append(sweep)?;
         drop(self.release()?);
         Ok(())
     }
@@ -275,7 +275,7 @@ impl<N: StoreName, R: Wait + Drop> VersionWriter<N, R> {
         }
         match self.judge(entry) {
             Ok(None) => Ok(()),
-            Ok(Some(sweep)) => match self.put_legal(sweep) {
+            Ok(Some(sweep)) => match self.put_sweep(sweep) {
                 Ok(()) => Ok(()),
                 Err(_) => Err(PutFault::NoMemory),
             },

@@ -7,7 +7,6 @@ mod ahead;
 mod ending;
 mod faults;
 mod gates;
-mod given;
 mod known;
 mod peers;
 mod runs;

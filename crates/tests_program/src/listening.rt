@@ -250,10 +250,6 @@ fn faults_have_a_text(rt: HostRuntime) {
             ListenFault::Metrics(io::Error::from(ErrorKind::AddrInUse)),
             "the address for metrics cannot be listened on: address in use",
         ),
-        (
-            ListenFault::TooManyTopics,
-            "more topics are given than the store may hold; raise the limit",
-        ),
         (ListenFault::NoMemory, "out of memory"),
         (ListenFault::NoThread, "no thread can be started"),
     ];

@@ -1,4 +1,4 @@
-use Rattle.std.proofs.Common.{◌≡◌, None, ap, ◌∙◌, arith}
+use Rattle.std.proofs.Common.{◌≡◌, None, ap, sym, ◌∙◌, arith}
 use Rattle.rs_store.specs.History.{IsLegal, extended}
 use Rattle.rs_version.specs.Copies.{shown}
 use Rattle.rs_version.proofs.Memory.{true_le}
