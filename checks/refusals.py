@@ -15,7 +15,8 @@ from harness.words import given_words
 ROOT = Path(__file__).resolve().parent.parent
 # A refusal as a value, and not as the pattern of an arm or a part of a type.
 MADE = re.compile(
-    r"\b(?:(?:AllocError|NoMemory)\b(?=[),;]|$)(?!.*=>)|Gone(?: \{ |::)|RecvError\b(?=[),;])|of_refused\(|SubmitFault::(?:Open|Closed)\b(?!.*=>))"
+    r"\b(?:(?:AllocError|NoMemory)\b(?=[),;]|$)(?!.*=>)|Gone(?: \{ |::)|RecvError\b(?=[),;])"
+    r"|of_refused\(|SubmitFault::(?:Open|Closed)\b(?!.*=>))"
 )
 # What imports, clauses and types say of it.
 SAID = re.compile(
