@@ -317,7 +317,7 @@ fn help_and_the_version_are_shown(rt: HostRuntime) -> Result<(), Fail> {
         ("listen --help", "Usage: rstored listen"),
         ("listen --help", "Up to --clients clients are served"),
         ("listen --help", "Keep Alive is not enforced"),
-        ("listen --help", "With --endless it goes on"),
+        ("listen --help", "With --endless it runs"),
         ("listen --help", "lost at the end"),
         ("listen --help", "There is no TLS"),
         ("listen --help", "--places <1-64>"),
