@@ -81,7 +81,7 @@ fn join_all<N: LineName>(taken: &mut Taken<N>, ends: Vec<LineEnd<N>>)
     for end in ends {
         let (sender, pass) = end.into_parts();
         taken.join(&sender, pass);
-        // For the proof: by the rule of the queue, what was taken is what the lines sent, or the beginning of it. `all_sent` compares numbers.
+        // For the proof: by the rule of the queue, what was taken is what the lines sent, or a prefix of it. `all_sent` compares numbers.
         taken.compare(&sender);
     }
 }
