@@ -143,8 +143,10 @@ def refused(folder, text, before=()):
         is_done, reason = journal.ask("open")
     if is_done or text not in reason:
         sys.exit(f"an opening is not refused for {text}: {reason[:80]}")
-    if bytes_in(folder) != kept:
-        sys.exit(f"{text}: {sorted(kept)} before, {sorted(bytes_in(folder))} after")
+    # A file that is missing may be made, empty.
+    after = {name: data for name, data in bytes_in(folder).items() if name in kept or data}
+    if after != kept:
+        sys.exit(f"{text}: {sorted(kept)} before, {sorted(after)} after, or other bytes")
 
 
 def keep_some(folder):
@@ -154,6 +156,51 @@ def keep_some(folder):
         journal.push(numbered(0, 100))
         journal.do("commit")
         journal.do("checkpoint")
+
+
+def pages_and_log(is_copied):
+    """The bytes of the file of pages, and of its log, after a commit. If it is copied, the log has
+    its head alone, and else the file of pages has."""
+    with shell() as (journal, folder):
+        journal.do("open")
+        journal.push(numbered(0, 100))
+        journal.do("commit")
+        if is_copied:
+            journal.do("checkpoint")
+        journal.do("close")
+        kept = bytes_in(folder)
+        return [kept[name] for name in FILES]
+
+
+def refused_with(pages, log, text):
+    """Files with these bytes are refused for this reason. Either may be missing."""
+    with tempfile.TemporaryDirectory(dir=FOLDER) as folder:
+        for name, data in zip(FILES, (pages, log)):
+            if data is not None:
+                Path(folder, name).write_bytes(data)
+        refused(folder, text)
+
+
+def foreign():
+    """Swapped files, a log whose file of pages is missing or empty, and foreign files in the place
+    of either are refused, and keep each byte."""
+    text = b"A letter.\n" * 300
+    for is_copied in (False, True):
+        pages, log = pages_and_log(is_copied)
+        refused_with(log, pages, "Foreign")
+        refused_with(text, log, "Foreign")
+        refused_with(text[:9], log, "Foreign")
+        refused_with(text, text, "Foreign")
+        refused_with(text, b"", "Foreign")
+        refused_with(pages, text, "ForeignLog")
+        for name in (pages, text):
+            refused_with(b"", name, "LoneLog")
+        other = pages[:7] + b"\x02" + pages[8:]
+        refused_with(other, log, "Version(2)")
+    log = pages_and_log(is_copied=False)[1]
+    refused_with(b"", log, "LoneLog")
+    refused_with(None, log, "LoneLog")
+    print("swapped and foreign files, and a log without its pages: refused, and kept")
 
 
 def held():
@@ -184,7 +231,7 @@ def read_only():
 
 
 def main():
-    run_named((damage, many, held, read_only))
+    run_named((damage, many, foreign, held, read_only))
 
 
 if __name__ == "__main__":

@@ -4,9 +4,10 @@ Whole sessions go through the program. Each time it must end with status 0, and 
 of a session that was refused memory at one packet, which keeps nothing of that packet and takes it
 when it comes again; or with status 1, write all replies before one or before a packet, and say on
 standard error what failed: never another answer. The program check_tasks does the same with the
-calls of a catalogue, of a window, of a store of versions, of the queue to its writer, of clients
-that share a seat, and of a client that is served, and out_of_memory_journal.py with those of a
-journal. Without a refusal check_tasks looks at 200,000 connections as they come back.
+calls of a catalogue, of a window, of a store of versions, of stores that are opened with messages,
+of the queue to its writer, of clients that share a seat, and of a client that is served, and
+out_of_memory_journal.py with those of a journal. Without a refusal check_tasks looks at 200,000
+connections as they come back.
 """
 
 import os
@@ -171,6 +172,7 @@ def main():
         kinds += ["a topic behind a Sweep", "a Clear"]
         calls("tree", dict.fromkeys(kinds, 2), library, untold=2)
         calls("window", {"a queue": 2}, library)
+        calls("given", {"an opening": 2}, library)
         for count in (1, 2, 3):
             # If a put is refused memory, it is made with that of the reserve. A second failure in a
             # row holds its entry, and a third refuses the retry.

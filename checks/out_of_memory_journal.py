@@ -36,6 +36,8 @@ KINDS = {
     "commit": "a commit",
     "checkpoint": "a checkpoint",
     "again": "a reading",
+    "shorten": "a shortening",
+    "retain": "a reading of what is retained",
 }
 DOUBT = "a commit in doubt"
 END = "the program itself"
@@ -59,6 +61,8 @@ class Session:
         self.refused = Counter()
         # The records that stand, and those that stand, too, if the command at hand is done.
         self.standing, self.after = b"", None
+        # The numbers of the messages that were pushed.
+        self.numbers = []
 
     def ask(self, command, *words):
         """What a command is answered, or `None`, and the fault if memory is refused."""
@@ -142,6 +146,32 @@ class Session:
                 self.check_standing()
         raise Wrong("a commit is refused twice")
 
+    def shorten(self):
+        """Lets a Set of each message take the place of all operations, once more if it was refused.
+        The batches have one Set for each topic, so what is retained are all of them, by topic."""
+        messages = len(self.numbers)
+        self.after = b"".join(map(record, sorted(self.numbers, key=lambda n: b"%d" % n)))
+        for _ in range(2):
+            _, fault = self.ask("shorten")
+            if fault is None:
+                self.standing = self.after
+                break
+            if "Doubtful" in fault:
+                self.refused[DOUBT] += 1
+                self.look_at_copy()
+                self.open_anew()
+            else:
+                self.check_standing()
+        else:
+            raise Wrong("a shortening is refused twice")
+        self.after = None
+        self.shell.ask("close")
+        counted, fault = self.ask("retain")
+        if fault is not None:
+            counted = self.shell.do("retain")
+        if int(counted) != messages:
+            raise Wrong(f"{counted} topics are retained, and not {messages}")
+
     def copy_log(self):
         """Copies the log. A checkpoint whose sync fails closes the journal."""
         _, fault = self.ask("checkpoint")
@@ -157,6 +187,7 @@ class Session:
         """Keeps all batches."""
         self.open_anew(has_power=True)
         for is_anew, numbers in BATCHES:
+            self.numbers = [*([] if is_anew else self.numbers), *numbers]
             if is_anew:
                 # An open journal has the memory for a new beginning already.
                 self.open_anew(has_power=True)
@@ -165,6 +196,9 @@ class Session:
             self.check_standing()
             if is_anew:
                 self.copy_log()
+                self.check_standing()
+            else:
+                self.shorten()
                 self.check_standing()
         self.open_anew(has_power=True)
 

@@ -3,8 +3,9 @@
 //!
 //! - `open`: opens the files; the answer has the RECORDS that it finds;
 //! - `retain`: the same with how many topics have a message, and nothing else is kept of what it finds;
-//! - `push RECORDS`, `commit`, `anew` (what is pushed from here on takes the place of all) and `checkpoint`;
+//! - `push RECORDS`, `commit`, `sync`, `anew` (what is pushed from here on takes the place of all) and `checkpoint`;
 //! - `again`: the RECORDS that stand;
+//! - `shorten`: reads again what is retained, and lets a Set of each message take the place of all;
 //! - `pages`: how many pages they take;
 //! - `often COUNT RECORDS`: pushes and commits so often; the answer has the nanoseconds;
 //! - `unsynced COUNT RECORDS`: the same over files that are opened for it, closed behind it, and not synced meanwhile;

@@ -4,7 +4,9 @@ ghost use Rattle.std.specs.Prelude.{◌≡◌};
 
 use crate::fault::Fault;
 use bytes::Bytes;
-use rs_journal::{Journal, OpenFiles, OperationSink, Retained, Switch, Switched, WriteFault};
+use rs_journal::{
+    Journal, NotOpened, OpenFiles, OperationSink, Retained, Switch, Switched, WriteFault,
+};
 use rs_journal_record::{RecordFault, put_record, read_record};
 use rs_message::Operation;
 use sqlite_disk::{Disk, Files};
@@ -78,9 +80,10 @@ fn opened<D: Disk + Drop, S: OperationSink>(
     if !files.may_be_used() {
         return Err(Fault::Io);
     }
-    let mut journal = Journal::new(alloc, files, 7)?;
-    journal.open(sink)?;
-    Ok(journal)
+    match Journal::open(alloc, files, 7, sink) {
+        Ok(journal) => Ok(journal),
+        Err(NotOpened { fault, files: _ }) => Err(Fault::Read(fault)),
+    }
 }
 
 fn push_all<D: Disk>(journal: &mut Journal<D>, operations: &[Operation]) -> Result<(), WriteFault> {
@@ -135,12 +138,18 @@ fn work(
     match name {
         "push" => push_all(journal, &read_operations(alloc, words)?)?,
         "commit" => journal.commit()?,
+        "sync" => journal.sync()?,
         "anew" => journal.begin_anew()?,
         "checkpoint" => journal.checkpoint()?,
         "again" => {
             let mut taken = Taken::new(alloc);
             journal.read_again(&mut taken)?;
             return Ok(taken.digits(alloc)?);
+        }
+        "shorten" => {
+            let mut retained = Retained::new(alloc);
+            journal.read_again(&mut retained)?;
+            journal.shorten(&retained)?;
         }
         "pages" => return Ok(format!(in alloc; "{}", journal.page_count())?),
         "often" => return commit_often(rt, journal, words),

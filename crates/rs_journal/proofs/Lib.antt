@@ -3,6 +3,9 @@ pub mod ListLemmas
 pub mod StreamLemmas
 pub mod StandsLemmas
 pub mod OpenLemmas
+pub mod CheckLemmas
+pub mod OpenedLemmas
 pub mod CrashLemmas
 pub mod FrameLemmas
 pub mod RetainedLemmas
+pub mod RestartLemmas

@@ -21,8 +21,8 @@ use Rattle.sqlite_wal.proofs.ChangeLemmas.{HaveCount}
 use Rattle.rs_journal.specs.Pages.{AreNumbered, HasStream, IsHead, head_form, number_in, number_of}
 use Rattle.rs_journal.specs.Images.{EachStandsForOne, StandsFor, Keeps as HasImage}
 use Rattle.rs_journal.specs.declared.pages.fault.OpenFault.{OpenFault}
-use Rattle.rs_journal.specs.declared.pages.fault.OpenFault.TheVariants.{Foreign, Version, Damaged, NoMemory, Disk}
-use Rattle.rs_journal.specs.OpenFaults.{AreWrong, Explains, IsRefusal, IsWrongHead, fault_of}
+use Rattle.rs_journal.specs.declared.pages.fault.OpenFault.TheVariants.{Foreign, Version, Damaged, LoneLog, ForeignLog, NoMemory, Disk}
+use Rattle.rs_journal.specs.OpenFaults.{AreWrong, Explains, IsHindrance, IsRefusal, IsWrongHead, fault_of}
 use Rattle.rs_journal.proofs.FormLemmas.{head_long}
 use Rattle.rs_journal.proofs.StreamLemmas.{fresh, one_stream, page_of_number, some_is}
 
@@ -161,8 +161,19 @@ wrong_head : (fault : OpenFault) (page : List ℕ) (first : ℕ) → IsWrongHead
 wrong_head Foreign page first wrong head = wrong head.named
 wrong_head (Version n) page first wrong head = wrong.2 (sym wrong.1 ∙ head.version)
 wrong_head Damaged page first wrong head = wrong.2 first head
+wrong_head LoneLog page first wrong head = wrong
+wrong_head ForeignLog page first wrong head = wrong
 wrong_head NoMemory page first wrong head = wrong
 wrong_head (Disk e) page first wrong head = wrong
+
+pub wrong_refuses : (fault : OpenFault) (page : List ℕ) → IsWrongHead fault page → IsRefusal fault
+wrong_refuses Foreign page wrong = tt
+wrong_refuses (Version n) page wrong = tt
+wrong_refuses Damaged page wrong = tt
+wrong_refuses LoneLog page wrong = wrong
+wrong_refuses ForeignLog page wrong = wrong
+wrong_refuses NoMemory page wrong = wrong
+wrong_refuses (Disk e) page wrong = wrong
 
 -- and pages with it have no stream
 pub wrong_page : (fault : OpenFault) (pages : Pages) (page : List ℕ) → pages 1 ≡ Some page → IsWrongHead fault page → AreWrong fault pages page
@@ -170,6 +181,8 @@ wrong_page Foreign pages page there wrong = wrong
 wrong_page (Version n) pages page there wrong = wrong
 wrong_page Damaged pages page there wrong =
     (wrong.0, wrong.1, λ first count stream has. wrong.2 first (subst (λ (l : List ℕ). IsHead l first) (some_is has.head.bytes page (pages 1) has.head.there there) has.head.says))
+wrong_page LoneLog pages page there wrong = wrong
+wrong_page ForeignLog pages page there wrong = wrong
 wrong_page NoMemory pages page there wrong = wrong
 wrong_page (Disk e) pages page there wrong = wrong
 
@@ -182,6 +195,8 @@ wrong_pages fault pages page there wrong first count stream has =
     by Foreign wrong says = wrong says.named
     by (Version n) wrong says = wrong.2 (sym wrong.1 ∙ says.version)
     by Damaged wrong says = wrong.2 first count stream has
+    by LoneLog wrong says = wrong
+    by ForeignLog wrong says = wrong
     by NoMemory wrong says = wrong
     by (Disk e) wrong says = wrong
 
@@ -195,12 +210,16 @@ not_recovered Full image why = tt
 not_recovered Corrupt image why = inl (why refl)
 not_recovered Exists image why = tt
 
-pub recovered_wrong : (fault : OpenFault) (image : Image) (pages : Pages) → Recovers 1024 image pages → (IsRefusal fault → (page : List ℕ) × (pages 1 ≡ Some page) × AreWrong fault pages page) → Explains fault image
-recovered_wrong Foreign image pages recovers why = let at = why tt in inr (record { pages = pages; recovers = recovers; page = at.0; there = at.1; wrong = at.2 })
-recovered_wrong (Version n) image pages recovers why = let at = why tt in record { pages = pages; recovers = recovers; page = at.0; there = at.1; wrong = at.2 }
-recovered_wrong Damaged image pages recovers why = let at = why tt in record { pages = pages; recovers = recovers; page = at.0; there = at.1; wrong = at.2 }
-recovered_wrong NoMemory image pages recovers why = tt
-recovered_wrong (Disk e) image pages recovers why = tt
+pub recovered_wrong : (fault : OpenFault) (image : Image) (pages : Pages) → Recovers 1024 image pages → (IsRefusal fault → (page : List ℕ) × (pages 1 ≡ Some page) × AreWrong fault pages page) → IsRefusal fault ⊎ IsHindrance fault → Explains fault image
+recovered_wrong Foreign image pages recovers why kind = let at = why tt in inr (record { pages = pages; recovers = recovers; page = at.0; there = at.1; wrong = at.2 })
+recovered_wrong (Version n) image pages recovers why kind = let at = why tt in record { pages = pages; recovers = recovers; page = at.0; there = at.1; wrong = at.2 }
+recovered_wrong Damaged image pages recovers why kind = let at = why tt in record { pages = pages; recovers = recovers; page = at.0; there = at.1; wrong = at.2 }
+recovered_wrong LoneLog image pages recovers why (inl refusal) = absurd refusal
+recovered_wrong LoneLog image pages recovers why (inr hindrance) = absurd hindrance
+recovered_wrong ForeignLog image pages recovers why (inl refusal) = absurd refusal
+recovered_wrong ForeignLog image pages recovers why (inr hindrance) = absurd hindrance
+recovered_wrong NoMemory image pages recovers why kind = tt
+recovered_wrong (Disk e) image pages recovers why kind = tt
 
 -- pages that have no stream stand for none
 pub not_without : (image : Image) (stream : List ℕ) (pages : Pages) → ¬ IsBlank (head_form 1) image → Recovers 1024 image pages → ((first count : ℕ) (s : List ℕ) → ¬ HasStream pages first count s)

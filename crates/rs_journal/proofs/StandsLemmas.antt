@@ -3,10 +3,10 @@ use Rattle.std.proofs.Common.{◌≡◌, ◌⊎◌, inl, inr, Bool, true, false,
 use Rattle.std.proofs.lemmas.List.{append-nil}
 use Rattle.sqlite_disk.specs.declared.Disk.{Ghosts}
 use Rattle.sqlite_disk.specs.Disk.{MoreFaults}
-use Rattle.sqlite_wal.specs.Recovery.{Pages, Image, Recovers, RecoversAs, AddsNothing, AreWhole}
+use Rattle.sqlite_wal.specs.Recovery.{Pages, Image, Recovers, AddsNothing, AreWhole}
 use Rattle.sqlite_wal.specs.State.{State, Keeps, MayCommit, StaysOrFails}
 use Rattle.sqlite_wal.proofs.LogLemmas.{SeenMayStay}
-use Rattle.sqlite_wal.proofs.StateLemmas.{AddsNothing-fewer, AddsNothing-trans, clean_of, open_from, ready_of, Keeps-refl, Keeps-trans}
+use Rattle.sqlite_wal.proofs.StateLemmas.{AddsNothing-fewer, AddsNothing-trans, clean_of, open_from, Keeps-refl, Keeps-trans}
 use Rattle.sqlite_pager.specs.declared.pager.Pager.{Pager}
 use Rattle.sqlite_pager.specs.Pager.{files, state, visible, page_count as pages_of, IsClean as IsCleanPages}
 use Rattle.sqlite_pager.proofs.PagerLemmas.{settled, visible_counted, visible_whole}
@@ -55,8 +55,8 @@ not_true true never = absurd (never refl)
 not_true false never = refl
 
 -- it closes only at a failed call
-pub failed_if_closed : (old new : State) (was is : Bool) → StaysOrFails old new → is ≡ was → IsTrue old.is_ready × IsTrue was → ¬ (IsTrue new.is_ready × IsTrue is) → MoreFaults old.faults new.faults
-failed_if_closed old new was is stays same before shut = stays.stops before.0 (not_true new.is_ready (λ ready. shut (ready, same ∙ before.1)))
+pub failed_if_closed : (old new : State) → StaysOrFails old new → IsTrue old.is_ready → ¬ IsTrue new.is_ready → MoreFaults old.faults new.faults
+failed_if_closed old new stays before shut = stays.stops before (not_true new.is_ready shut)
 
 module _ {D : Type 0} {g : Ghosts D} where
   pub stands_of : (it : PageStream D g) (standing seen : List ℕ) → Holds it standing seen → Stands it standing
@@ -83,11 +83,11 @@ module _ {D : Type 0} {g : Ghosts D} where
   stands_same old new standing pager same stands =
       stands_along old new standing (subst (λ (p : Pager D g). Keeps (state old.pager) (state p)) (sym pager) (Keeps-refl (state old.pager))) same stands
 
-  pub goes_on_same : (old new : PageStream D g) → new.pager ≡ old.pager → new.standing ≡ old.standing → new.is_found ≡ old.is_found → GoesOn old new
-  goes_on_same old new pager same found = record { keeps = subst (λ (p : Pager D g). Keeps (state old.pager) (state p)) (sym pager) (Keeps-refl (state old.pager)); standing = same; found = found }
+  pub goes_on_same : (old new : PageStream D g) → new.pager ≡ old.pager → new.standing ≡ old.standing → GoesOn old new
+  goes_on_same old new pager same = record { keeps = subst (λ (p : Pager D g). Keeps (state old.pager) (state p)) (sym pager) (Keeps-refl (state old.pager)); standing = same }
 
   pub goes_on_trans : (a b c : PageStream D g) → GoesOn a b → GoesOn b c → GoesOn a c
-  goes_on_trans a b c s t = record { keeps = Keeps-trans (state a.pager) (state b.pager) (state c.pager) s.keeps t.keeps; standing = t.standing ∙ s.standing; found = t.found ∙ s.found }
+  goes_on_trans a b c s t = record { keeps = Keeps-trans (state a.pager) (state b.pager) (state c.pager) s.keeps t.keeps; standing = t.standing ∙ s.standing }
 
   pub stands_on : (old new : PageStream D g) (standing : List ℕ) → GoesOn old new → Stands old standing → Stands new standing
   stands_on old new standing on stands = stands_along old new standing on.keeps on.standing stands
@@ -99,9 +99,9 @@ module _ {D : Type 0} {g : Ghosts D} where
   adds_none old new on = adds_nothing old new.pager on.keeps
 
   -- nothing was done with a closed one
-  pub closed_same : (old new : PageStream D g) → new.pager ≡ old.pager → new.is_found ≡ old.is_found → ¬ IsOpen old → StaysClosed old new
-  closed_same old new pager found shut = record {
-    closed = λ h. shut (subst (λ (p : Pager D g). IsTrue (state p).is_ready) pager h.0, sym found ∙ h.1);
+  pub closed_same : (old new : PageStream D g) → new.pager ≡ old.pager → ¬ IsOpen old → StaysClosed old new
+  closed_same old new pager shut = record {
+    closed = λ h. shut (subst (λ (p : Pager D g). IsTrue (state p).is_ready) pager h);
     files = ap (λ (p : Pager D g). files p) pager;
     outcomes = subst (λ (p : Pager D g). AddsNothing 1024 (may_leave old) (state p).may_leave) (sym pager) (AddsNothing-fewer 1024 (may_leave old) (may_leave old) (λ left may. may));
   }
@@ -295,10 +295,10 @@ module _ {D : Type 0} {g : Ghosts D} where
   ]
 
   -- after an opening
-  pub rests_found : (old it : PageStream D g) (standing : List ℕ) → SeenMayStay g → IsTrue (state it.pager).is_ready → (IsSound it → HasStream (state it.pager).committed it.standing.first it.standing.count standing)
+  pub rests_found : (it : PageStream D g) (standing : List ℕ) → SeenMayStay g → IsTrue (state it.pager).is_ready → (IsSound it → HasStream (state it.pager).committed it.standing.first it.standing.count standing)
       → (IsSound it → visible it.pager ≡ (state it.pager).committed) → it.seen ≡ it.standing → it.tail.items ≡ [] → Rests it standing
   unfolding Stands Holds Rests
-  rests_found old it standing stay ready has same extent empty = record { stands = stands_settled it standing stay ready has; same = same; extent = extent; empty = empty }
+  rests_found it standing stay ready has same extent empty = record { stands = stands_settled it standing stay ready has; same = same; extent = extent; empty = empty }
 
   -- the same stream by another name, where that is known
   pub rests_like : (it : PageStream D g) (stream other : List ℕ) → Rests it stream → (IsClean it → stream ≡ other) → Rests it other

@@ -1,5 +1,8 @@
 -- The stream that two files stand for.
 use Rattle.std.specs.Prelude.{◌≡◌, ◌⊎◌, ℕ, List, [], Contains}
+use Rattle.sqlite_disk.specs.declared.Disk.{Ghosts}
+use Rattle.sqlite_wal.specs.Files.{outcomes}
+use Rattle.sqlite_wal.specs.Reads.{AreClean}
 use Rattle.sqlite_wal.specs.Recovery.{Pages, Image, Recovers, AreWhole, IsBlank}
 use Rattle.rs_journal.specs.Pages.{page_size, head_form, HasStream}
 
@@ -27,3 +30,12 @@ AllStandFor outcomes stream = (image : Image) → outcomes image → StandsFor i
 -- each of them stands for one of these streams
 abbrev pub EachStandsForOne : (Image → Type 0) → List (List ℕ) → Type 0
 EachStandsForOne outcomes streams = (image : Image) → outcomes image → (stream : List ℕ) × Contains streams stream × StandsFor image stream
+
+-- what a crash may leave of two files, as long as no wrong answer of them has been taken as true
+abbrev pub outcomes_of : {D : Type 0} → Ghosts D → D → D → Image → Type 0
+outcomes_of g log db image = AreClean g log db × outcomes g log db image
+
+-- the files have the bytes that they had, and a crash leaves nothing else
+pub record AreKept (seen : Image) (outcomes : Image → Type 0) (seen_now : Image) (outcomes_now : Image → Type 0) : Type 0 where
+  pub same : seen_now ≡ seen
+  pub leaves : (left : Image) → outcomes_now left → outcomes left

@@ -29,23 +29,15 @@ module _ {D : Type 0} {g : Ghosts D} where
   abbrev pub may_leave : Journal D g → Image → Type 0
   may_leave it = stream.may_leave it.stream
 
-  -- what reads of the two files return
-  abbrev pub image : Journal D g → Image
-  image it = stream.image it.stream
-
   -- the log and the file of pages
   abbrev pub files_of : Journal D g → D × D
   files_of it = stream.files_of it.stream
-
-  -- no sync of them has failed
-  abbrev pub AreUsable : Journal D g → Type 0
-  AreUsable it = stream.AreUsable it.stream
 
   -- No wrong answer of the files has been taken as true. Of others nothing is said.
   abbrev pub IsClean : Journal D g → Type 0
   IsClean it = stream.IsClean it.stream
 
-  -- its last opening succeeded, and nothing has failed since that asks for a new one
+  -- nothing has failed since its opening that asks for a new one
   abbrev pub IsOpen : Journal D g → Type 0
   IsOpen it = stream.IsOpen it.stream
 

@@ -8,4 +8,5 @@ pub mod Journals
 pub mod Opening
 pub mod Writing
 pub mod Retaining
+pub mod Restarting
 pub mod Law

@@ -4,7 +4,7 @@ use Rattle.sqlite_disk.specs.declared.Disk.{Ghosts}
 use Rattle.sqlite_disk.specs.Disk.{MoreFaults}
 use Rattle.sqlite_wal.specs.Recovery.{Image, AddsNothing}
 use Rattle.sqlite_wal.specs.State.{Keeps as KeepsState}
-use Rattle.sqlite_pager.specs.Pager.{files, state, visible, log_frames, image as pages_image, AreUsable as AreUsablePages, HasSpilled as HasSpilledPages}
+use Rattle.sqlite_pager.specs.Pager.{files, state, visible, log_frames, image as pages_image, HasSpilled as HasSpilledPages}
 use Rattle.rs_journal.specs.declared.pages.stream.PageStream.{PageStream}
 use Rattle.rs_journal.specs.Pages.{HasStream, joined, page_size, part_in}
 use Rattle.rs_journal.specs.Images.{Keeps}
@@ -22,17 +22,13 @@ module _ {D : Type 0} {g : Ghosts D} where
   abbrev pub files_of : PageStream D g → D × D
   files_of it = files it.pager
 
-  -- no sync of them has failed
-  abbrev pub AreUsable : PageStream D g → Type 0
-  AreUsable it = AreUsablePages it.pager
-
   -- No wrong answer of the files has been taken as true. Of others nothing is said.
   abbrev pub IsClean : PageStream D g → Type 0
   IsClean it = IsTrue (state it.pager).is_clean
 
-  -- its last opening succeeded, and nothing has failed since that asks for a new one
+  -- nothing has failed since its opening that asks for a new one
   abbrev pub IsOpen : PageStream D g → Type 0
-  IsOpen it = IsTrue (state it.pager).is_ready × IsTrue it.is_found
+  IsOpen it = IsTrue (state it.pager).is_ready
 
   -- its pages were found, no wrong answer has been taken as true, and nothing has failed since
   abbrev pub IsSound : PageStream D g → Type 0
@@ -69,7 +65,6 @@ module _ {D : Type 0} {g : Ghosts D} where
   pub record GoesOn (old new : PageStream D g) : Type 0 where
     pub keeps : KeepsState (state old.pager) (state new.pager)
     pub standing : new.standing ≡ old.standing
-    pub found : new.is_found ≡ old.is_found
 
   -- how many calls of the files have failed
   abbrev pub fault_count : PageStream D g → ℕ

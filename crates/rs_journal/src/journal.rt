@@ -1,15 +1,20 @@
 //! Operations in two files.
 
-ghost use Rattle.std.specs.Prelude.{◌≡◌, ◌⊎◌, ◌++◌, ◌∷◌, [], ◌↔◌, ℕ, List, All, IsTrue, IfOk, IfErr, OnOk, OnErr};
-ghost use Rattle.sqlite_wal.specs.Recovery.{Image};
+ghost use Rattle.std.specs.Prelude.{◌≡◌, ◌⊎◌, ◌++◌, ◌∷◌, [], ◌↔◌, ◌<◌, ◌≤◌, ℕ, List, All, IsTrue, IfOk, IfErr, OnOk, OnErr};
+ghost use Rattle.sqlite_wal.specs.Files.{seen_image};
+ghost use Rattle.sqlite_wal.specs.Reads.{AreClean};
+ghost use Rattle.sqlite_wal.specs.Recovery.{Image, AddsNothing};
 ghost use Rattle.rs_message.specs.declared.entry.Operation.{Operation as Kept};
 ghost use Rattle.rs_journal_record.specs.Records.{IsOperation};
+ghost use Rattle.rs_journal.specs.Images.{AreKept, outcomes_of};
+ghost use Rattle.rs_journal.specs.OpenFaults.{AreSpared};
 ghost use Rattle.rs_journal.specs.Opening.{Explains, IsRefusal, IsWrong};
+ghost use Rattle.rs_journal.specs.Pages.{page_size};
 ghost use Rattle.rs_journal.specs.Retaining.{Retains, sets_of};
 ghost use Rattle.rs_journal.specs.Writing.{IsRefused};
 
 use crate::fault::{ReadFault, WriteFault};
-use crate::pages::{OpenFault, PageStream};
+use crate::pages::{NotOpened, PageStream};
 use crate::reading::{drop_front, read_frames};
 use crate::retained::Retained;
 use crate::sink::OperationSink;
@@ -17,7 +22,7 @@ use rs_journal_record::put_record;
 use rs_message::{Found, Operation};
 use sqlite_disk::{Disk, Files};
 use sqlite_pager::Error;
-use std::alloc::{AllocFailed, Global};
+use std::alloc::Global;
 
 /// Operations that are kept in two files. What is pushed is seen at once, and stands from the commit on.
 #[derive(Drop)]
@@ -29,32 +34,64 @@ pub struct Journal<D: Disk> {
 }
 
 impl<D: Disk> Journal<D> {
-    ghost use Rattle.rs_journal.specs.Journals.{may_leave, image, page_count, log_len, AreUsable, HasSpilled, IsClean, IsOpen, IsUnmade, files_of, HasFailed, Keeps, StandsFor, EachStandsForOne, AddsNoOutcome, Holds, Rests, StaysClosed};
+    ghost use Rattle.rs_journal.specs.Journals.{may_leave, page_count, log_len, HasSpilled, IsClean, IsOpen, IsUnmade, files_of, HasFailed, Keeps, StandsFor, EachStandsForOne, AddsNoOutcome, Holds, Rests, StaysClosed};
     ghost use Rattle.rs_journal.specs.Streams.{Rests as RestsStream, Stands as StandsStream};
     ghost use Rattle.rs_journal.specs.Frames.{frames};
 
-    /// A journal over these files, which [`open`](Journal::open) has to read first. The seed is any number that no earlier opening
-    /// of these files had.
-    pub fn new(
+    /// Opens the journal of these files and hands on the operations that they stand for, a page's worth at a time. The seed is any number
+    /// that no earlier opening of these files had.
+    ///
+    /// A crash on the way leaves what they stood for. Files in which anything was made stand for it still, whatever comes of this. If it
+    /// fails, the files come back, and the sink may have some of the operations. Files of another program or another version, and a log
+    /// whose file of pages is empty, are as they were then, byte for byte. So is what stands in the place of a log and is none, over a disk
+    /// on which a crash leaves each byte of a torn write old or new, as on real files; over another it is taken for a log that a crash has
+    /// torn.
+    pub fn open<S: OperationSink>(
         alloc: Global,
         files: Files<D>,
         seed: u64,
-    ) -> Result<Journal<D>, AllocFailed<Files<D>>>
-        requires { IsTrue (D.Disk.is_usable files.log) × IsTrue (D.Disk.is_usable files.db) }
-        ensures back { IfErr result (λ e. e.value ≡ files) }
-        ensures over { IfOk result (λ it. files_of it ≡ (files.log, files.db)) }
-        ensures usable { IfOk result AreUsable }
-        ensures closed { IfOk result (λ it. ¬ IsOpen it) }
+        sink: &mut S,
+    ) -> Result<Journal<D>, NotOpened<D, ReadFault>>
+        requires log_usable { IsTrue (D.Disk.is_usable files.log) }
+        requires db_usable { IsTrue (D.Disk.is_usable files.db) }
+        ensures found { IfOk result (λ it. (operations : List Kept) × ((before : List Kept) → S.has_taken sink.old before → S.has_taken sink.new (before ++ operations)) × All IsOperation operations
+            × (IsClean it → StandsFor (seen_image D.Disk files.log files.db) operations) × Rests it operations) }
+        ensures open { IfOk result IsOpen }
+        ensures refused { IfErr result (λ e. IsRefusal e.fault → AreClean D.Disk e.files.log e.files.db
+            → (operations : List Kept) → All IsOperation operations → ¬ StandsFor (seen_image D.Disk files.log files.db) operations) }
+        ensures named { IfErr result (λ e. AreClean D.Disk e.files.log e.files.db → Explains e.fault (seen_image D.Disk files.log files.db)) }
+        ensures opens_none { IfOk result (λ it. IsClean it → ¬ AreSpared (D.Disk.is_mixing files.log) (seen_image D.Disk files.log files.db)) }
+        ensures spares { IfErr result (λ e. AreClean D.Disk e.files.log e.files.db → AreSpared (D.Disk.is_mixing files.log) (seen_image D.Disk files.log files.db)
+            → AreKept (seen_image D.Disk files.log files.db) (outcomes_of D.Disk files.log files.db) (seen_image D.Disk e.files.log e.files.db) (outcomes_of D.Disk e.files.log e.files.db)) }
+        ensures untouched { IfOk result (λ it. ¬ IsUnmade (seen_image D.Disk files.log files.db) → AddsNothing page_size (outcomes_of D.Disk files.log files.db) (may_leave it)) }
+        ensures left_alone { IfErr result (λ e. ¬ IsUnmade (seen_image D.Disk files.log files.db) → AddsNothing page_size (outcomes_of D.Disk files.log files.db) (outcomes_of D.Disk e.files.log e.files.db)) }
+        ensures crash { IfOk result (λ it. (lists : List (List Kept)) → EachStandsForOne (outcomes_of D.Disk files.log files.db) lists → EachStandsForOne (may_leave it) lists) }
+        ensures leaves { IfErr result (λ e. (lists : List (List Kept)) → EachStandsForOne (outcomes_of D.Disk files.log files.db) lists → EachStandsForOne (outcomes_of D.Disk e.files.log e.files.db) lists) }
     {
-        let stream = PageStream::new(alloc, files, seed)?;
-        Ok(Journal {
+        let stream = match PageStream::open(alloc, files, seed) {
+            Ok(stream) => stream,
+            Err(refused) => {
+                return Err(NotOpened {
+                    fault: ReadFault::Open(refused.fault),
+                    files: refused.files,
+                });
+            }
+        };
+        let mut journal = Journal {
             stream,
             record: Vec::new(alloc),
             alloc,
-        })
+        };
+        match journal.read_stream(sink) {
+            Ok(()) => Ok(journal),
+            Err(fault) => Err(NotOpened {
+                fault,
+                files: journal.close(),
+            }),
+        }
     }
 
-    /// Whether the last opening succeeded, and nothing has failed since that asks for a new one.
+    /// Whether nothing has failed since its opening that asks for a new one.
     pub fn is_open(&self) -> bool
         ensures { IsTrue result ↔ IsOpen self.now }
     {
@@ -85,32 +122,6 @@ impl<D: Disk> Journal<D> {
             alloc: _,
         } = self;
         stream.close()
-    }
-
-    /// Opens the journal and hands on the operations that its files stand for, a page's worth at a time. A crash on the way leaves what
-    /// they stood for. Files in which anything was made stand for it still, whatever comes of this. If it fails, the sink may have some
-    /// of the operations, and the journal is closed: each call but an opening refuses, and does not touch the files.
-    pub fn open<S: OperationSink>(&mut self, sink: &mut S) -> Result<(), ReadFault>
-        requires { AreUsable self.old }
-        ensures found { OnOk result ((operations : List Kept) × ((before : List Kept) → S.has_taken sink.old before → S.has_taken sink.new (before ++ operations)) × All IsOperation operations
-            × (IsClean self.new → StandsFor (image self.old) operations) × Rests self.new operations) }
-        ensures open { OnOk result (IsOpen self.new) }
-        ensures closed { OnErr result (¬ IsOpen self.new) }
-        ensures refused { IfErr result (λ e. IsRefusal e → IsClean self.new → (operations : List Kept) → All IsOperation operations → ¬ StandsFor (image self.old) operations) }
-        ensures named { IfErr result (λ e. IsClean self.new → Explains e (image self.old)) }
-        ensures untouched { ¬ IsUnmade (image self.old) → AddsNoOutcome self.old self.new }
-        ensures crash { (lists : List (List Kept)) → EachStandsForOne (may_leave self.old) lists → EachStandsForOne (may_leave self.new) lists }
-    {
-        if let Err(fault) = self.stream.open() {
-            return Err(ReadFault::Open(fault));
-        }
-        match self.read_stream(sink) {
-            Ok(()) => Ok(()),
-            Err(fault) => {
-                self.stream.shut();
-                Err(fault)
-            }
-        }
     }
 
     /// Hands on the operations that stand, once more. What was pushed since the last commit is forgotten. A closed journal refuses it.
@@ -154,16 +165,6 @@ impl<D: Disk> Journal<D> {
             return Err(ReadFault::Damaged);
         }
         Ok(())
-    }
-
-    /// Forgets what was pushed since the last commit.
-    pub fn rollback(&mut self)
-        ensures open { IsOpen self.new ↔ IsOpen self.old }
-        ensures closed { ¬ IsOpen self.old → StaysClosed self.old self.new }
-        ensures rests { (standing seen : List Kept) → Holds self.old standing seen → Rests self.new standing }
-        ensures crash { AddsNoOutcome self.old self.new }
-    {
-        self.stream.rollback();
     }
 
     /// Begins anew: what is pushed from here on is all that is seen, and stands from the commit on. What was pushed since the last commit
@@ -220,12 +221,13 @@ impl<D: Disk> Journal<D> {
 
     /// Makes what is seen what stands. `Refused`: what was pushed is forgotten, no crash brings it back, and a journal that was open still
     /// is. `Doubtful`: a call of the files failed, a crash leaves the one or the other, and the journal, which was open, is closed: from
-    /// then on each call but an opening refuses, and does not touch the files.
+    /// then on each call but `close` refuses, and does not touch the files.
     pub fn commit(&mut self) -> Result<(), WriteFault>
         ensures open { OnOk result (IsOpen self.old) }
         ensures closed { ¬ IsOpen self.old → StaysClosed self.old self.new }
         ensures answer { ¬ IsOpen self.old → result ≡ Err (WriteFault.Refused Error.Closed) }
         ensures done { OnOk result ((standing seen : List Kept) → Holds self.old standing seen → Rests self.new seen) }
+        ensures pages { OnOk result (page_count self.old ≤ page_count self.new) }
         ensures still { OnOk result (IsOpen self.new) }
         ensures doubtful { IfErr result (λ e. ¬ IsRefused e → IsOpen self.old × ¬ IsOpen self.new) }
         ensures left_open { IfErr result (λ e. IsRefused e → IsOpen self.old → IsOpen self.new) }
@@ -246,6 +248,27 @@ impl<D: Disk> Journal<D> {
                     Err(WriteFault::Doubtful(error))
                 }
             }
+        }
+    }
+
+    /// Commits as [`commit`](Journal::commit) does, and writes a page even if nothing was pushed. So over a disk that syncs now and then it
+    /// syncs all that was committed before, which a [`checkpoint`](Journal::checkpoint) needs.
+    pub fn sync(&mut self) -> Result<(), WriteFault>
+        ensures open { OnOk result (IsOpen self.old) }
+        ensures closed { ¬ IsOpen self.old → StaysClosed self.old self.new }
+        ensures done { OnOk result ((standing seen : List Kept) → Holds self.old standing seen → Rests self.new seen) }
+        ensures writes { OnOk result (page_count self.old < page_count self.new) }
+        ensures still { OnOk result (IsOpen self.new) }
+        ensures doubtful { IfErr result (λ e. ¬ IsRefused e → IsOpen self.old × ¬ IsOpen self.new) }
+        ensures refused { IfErr result (λ e. IsRefused e → (standing seen : List Kept) → Holds self.old standing seen → Rests self.new standing) }
+        ensures crash { (standing seen : List Kept) → Holds self.old standing seen → (left : Image) → may_leave self.new left → Keeps left standing ⊎ Keeps left seen }
+    {
+        if let Err(error) = self.stream.push_page() {
+            return Err(WriteFault::Refused(error));
+        }
+        match self.commit() {
+            Ok(()) => Ok(()),
+            Err(fault) => Err(fault),
         }
     }
 
@@ -291,7 +314,8 @@ impl<D: Disk> Journal<D> {
 
     /// Copies what is committed from the log into the file of pages, and empties the log. No commit does so by itself, so call this while
     /// nothing waits and [`is_log_long`](Journal::is_log_long). What was pushed since the last commit stays; if some of it is in the log
-    /// already, nothing is copied. A closed journal refuses it.
+    /// already, nothing is copied, and the log stays long. A closed journal refuses it. Over a disk that does not sync at each commit, turn
+    /// syncs on and call [`sync`](Journal::sync) first.
     pub fn checkpoint(&mut self) -> Result<(), Error>
         ensures open { OnOk result (IsOpen self.old) }
         ensures closed { ¬ IsOpen self.old → StaysClosed self.old self.new }

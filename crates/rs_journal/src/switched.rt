@@ -45,8 +45,8 @@ impl Switch {
 /// At a power cut the system may have written some of the last seconds and not others, in any order. No clause says what is left then, so
 /// these rules stand on how the pager writes. A commit that is made while the switch is on syncs the log, with all that was committed
 /// before: that stays, and later commits can be lost from their end. A checkpoint writes over pages that only the log has otherwise, so it
-/// needs all of the log on the disk first: turn the switch on, commit what was pushed, checkpoint, and turn it off. A commit of nothing
-/// syncs nothing. An opening needs the switch on as well.
+/// needs all of the log on the disk first: turn the switch on, call `sync` of the journal, checkpoint, and turn it off. A commit of nothing
+/// syncs nothing, and `sync` writes even then. An opening needs the switch on as well.
 #[derive(Drop)]
 pub struct Switched<D: Disk> {
     inner: D,

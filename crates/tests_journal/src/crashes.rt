@@ -45,8 +45,8 @@ struct Failure {
     loses: bool,
 }
 
-/// A crash at a call, and a call that fails alone.
-const FAILURES: [Failure; 4] = [
+/// A crash at a call, a crash that leaves all that was written and the last write torn, and a call that fails alone.
+const FAILURES: [Failure; 6] = [
     Failure {
         is_log: true,
         failing: Failing::FromThen,
@@ -56,6 +56,16 @@ const FAILURES: [Failure; 4] = [
         is_log: false,
         failing: Failing::FromThen,
         loses: true,
+    },
+    Failure {
+        is_log: true,
+        failing: Failing::Tears,
+        loses: false,
+    },
+    Failure {
+        is_log: false,
+        failing: Failing::Tears,
+        loses: false,
     },
     Failure {
         is_log: true,

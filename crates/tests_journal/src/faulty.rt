@@ -1,17 +1,19 @@
 //! A disk of which calls fail.
 
-ghost use Rattle.std.specs.Prelude.{◌≡◌, ◌+◌, ◌&&◌, not, false};
+ghost use Rattle.std.specs.Prelude.{◌≡◌, ◌+◌, ◌&&◌, not, false, length, IfOk};
 ghost use Rattle.sqlite_disk.specs.Disk.{CountsFault};
 ghost use Rattle.sqlite_disk.specs.Refusal.{finds_no_room};
 
 use sqlite_disk::{Crash, Disk, Tally};
+use std::alloc::{AllocError, Global};
 use std::io;
 
-/// Which calls fail: one of them, each from one on, or each sync besides.
+/// Which calls fail: one of them, each from one on, the same with the first of them torn if it is a write, or each sync besides.
 #[derive(Clone, Copy, Debug, PartialEq, Eq)]
 pub enum Failing {
     Once,
     FromThen,
+    Tears,
     Syncs,
 }
 
@@ -19,6 +21,7 @@ pub enum Failing {
 #[derive(Drop)]
 pub struct Faulty<D: Disk> {
     pub inner: D,
+    alloc: Global,
     failing: Failing,
     calls_left: u64,
     refused: u64,
@@ -26,9 +29,10 @@ pub struct Faulty<D: Disk> {
 }
 
 impl<D: Disk> Faulty<D> {
-    pub fn new(inner: D, failing: Failing, calls: u64) -> Faulty<D> {
+    pub fn new(alloc: Global, inner: D, failing: Failing, calls: u64) -> Faulty<D> {
         Faulty {
             inner,
+            alloc,
             failing,
             calls_left: calls,
             refused: 0,
@@ -59,7 +63,7 @@ fn spend(failing: Failing, calls_left: &mut u64, refused: &mut u64) -> io::Resul
     ensures kind { finds_no_room result ≡ false }
 {
     if *calls_left == 0 {
-        if failing != Failing::FromThen {
+        if failing == Failing::Once || failing == Failing::Syncs {
             *calls_left = u64::MAX;
         }
         *refused = refused.saturating_add(1);
@@ -67,6 +71,17 @@ fn spend(failing: Failing, calls_left: &mut u64, refused: &mut u64) -> io::Resul
     }
     *calls_left -= 1;
     Ok(())
+}
+
+/// Of these bytes the front, and other bytes behind it.
+fn torn(alloc: Global, bytes: &[u8]) -> Result<Vec<u8>, AllocError>
+    ensures { IfOk result (λ torn. length torn.items ≡ length bytes.now) }
+{
+    let mut torn = Vec::from_slice(alloc, bytes)?;
+    for at in bytes.len() / 2..bytes.len() {
+        torn[at] ^= 0xA5;
+    }
+    Ok(torn)
 }
 
 impl<D: Disk> Disk for Faulty<D> {
@@ -122,6 +137,13 @@ impl<D: Disk> Disk for Faulty<D> {
     }
 
     fn write_at(&mut self, at: usize, bytes: &[u8]) -> io::Result<()> {
+        if self.failing == Failing::Tears && self.calls_left == 0 && self.refused == 0 {
+            self.refused = 1;
+            if let Ok(torn) = torn(self.alloc, bytes) {
+                self.inner.write_at(at, &torn)?;
+            }
+            return Err(io::Error::other("a write that was torn"));
+        }
         spend(self.failing, &mut self.calls_left, &mut self.refused)?;
         self.inner.write_at(at, bytes)
     }

@@ -14,3 +14,5 @@ mod real;
 mod script;
 #[cfg(test)]
 mod syncs;
+#[cfg(test)]
+mod texts;

@@ -1,11 +1,10 @@
 //! Runs of a journal, and what has to be found after them.
 
-ghost use Rattle.std.specs.Prelude.{◌≡◌, IfOk};
-ghost use Rattle.rs_journal.specs.Journals.{AreUsable};
+ghost use Rattle.std.specs.Prelude.{◌≡◌};
 
 use crate::faulty::{Failing, Faulty};
 use bytes::Bytes;
-use rs_journal::{Error, Journal, OperationSink, ReadFault, Retained, WriteFault};
+use rs_journal::{Error, Journal, NotOpened, OperationSink, ReadFault, Retained, WriteFault};
 use rs_journal_record::{put_record, read_record};
 use rs_message::Operation;
 use sqlite_disk::{Disk, Files, Memory};
@@ -52,6 +51,8 @@ pub enum Step {
     /// Pushes the operation of this number.
     Push(u64),
     Commit,
+    /// Commits, and writes even if nothing was pushed.
+    Sync,
     BeginAnew,
     /// Reads again what is retained, and lets a Set of each message take the place of all operations.
     Shorten,
@@ -220,7 +221,7 @@ impl Expected {
         match step {
             Step::Shorten => self.seen = retained_after(alloc, &self.standing)?,
             Step::Reopen => self.seen = Vec::from_slice(alloc, &self.standing)?,
-            Step::Push(_) | Step::Commit | Step::BeginAnew | Step::Checkpoint => {}
+            Step::Push(_) | Step::Commit | Step::Sync | Step::BeginAnew | Step::Checkpoint => {}
         }
         Ok(())
     }
@@ -232,7 +233,7 @@ impl Expected {
             (_, Outcome::Doubtful) => self.is_doubtful = true,
             (_, Outcome::Refused) => self.seen = Vec::from_slice(alloc, &self.standing)?,
             (Step::Push(n), Outcome::Done) => self.seen.push(n)?,
-            (Step::Commit | Step::Shorten, Outcome::Done) => {
+            (Step::Commit | Step::Sync | Step::Shorten, Outcome::Done) => {
                 self.standing = Vec::from_slice(alloc, &self.seen)?
             }
             (Step::BeginAnew, Outcome::Done) => self.seen.clear(),
@@ -250,33 +251,22 @@ impl Expected {
     }
 }
 
-/// A journal over these files that is not open yet, or the files if a sync of them has failed.
-pub fn journal_over<D: Disk>(alloc: Global, files: Files<D>) -> Result<Journal<D>, Files<D>>
-    ensures { IfOk result AreUsable }
-{
-    if !files.may_be_used() {
-        return Err(files);
-    }
-    match Journal::new(alloc, files, 5) {
-        Ok(journal) => Ok(journal),
-        Err(failed) => Err(failed.value),
-    }
-}
-
-/// An open journal over these files, whose operations the sink has taken, or the files if it does not open.
-fn opened<D: Disk>(
+/// A journal over these files, whose operations the sink has taken. If it does not open, the files, and why.
+pub fn opened<D: Disk, S: OperationSink>(
     alloc: Global,
     files: Files<D>,
-    taken: &mut Taken,
-) -> Result<Journal<D>, Files<D>> {
-    let mut journal = match journal_over(alloc, files) {
-        Ok(journal) => journal,
-        Err(files) => return Err(files),
-    };
-    if journal.open(taken).is_err() {
-        return Err(journal.close());
+    sink: &mut S,
+) -> Result<Journal<D>, NotOpened<D, Option<ReadFault>>> {
+    if !files.may_be_used() {
+        return Err(NotOpened { fault: None, files });
     }
-    Ok(journal)
+    match Journal::open(alloc, files, 5, sink) {
+        Ok(journal) => Ok(journal),
+        Err(NotOpened { fault, files }) => Err(NotOpened {
+            fault: Some(fault),
+            files,
+        }),
+    }
 }
 
 /// What files stand for, as records, or the fault that their opening has.
@@ -284,13 +274,13 @@ pub fn found_in<D: Disk + Drop>(
     alloc: Global,
     files: Files<D>,
 ) -> Result<Result<Vec<u8>, ReadFault>, Fail> {
-    let Ok(mut journal) = journal_over(alloc, files) else {
-        return Err("files that may be used".into());
-    };
     let mut taken = Taken::new(alloc);
-    match journal.open(&mut taken) {
-        Ok(()) => Ok(Ok(taken.records(alloc)?)),
-        Err(fault) => Ok(Err(fault)),
+    match opened(alloc, files, &mut taken) {
+        Ok(_) => Ok(Ok(taken.records(alloc)?)),
+        Err(refused) => match refused.fault {
+            Some(fault) => Ok(Err(fault)),
+            None => Err("files that may be used".into()),
+        },
     }
 }
 
@@ -308,6 +298,7 @@ fn done<D: Disk>(alloc: Global, journal: &mut Journal<D>, step: Step) -> Result<
     Ok(match step {
         Step::Push(n) => outcome_of(journal.push(&operation(alloc, n)?)),
         Step::Commit => outcome_of(journal.commit()),
+        Step::Sync => outcome_of(journal.sync()),
         Step::BeginAnew => outcome_of(journal.begin_anew()),
         Step::Shorten => shorten(alloc, journal),
         Step::Checkpoint => match journal.checkpoint() {
@@ -327,7 +318,7 @@ pub fn run<D: Disk + Drop>(
 ) -> Result<Files<D>, Fail> {
     let mut journal = match opened(alloc, files, &mut Taken::new(alloc)) {
         Ok(journal) => journal,
-        Err(files) => return Ok(files),
+        Err(refused) => return Ok(refused.files),
     };
     for step in steps {
         expected.prepare(alloc, *step)?;
@@ -335,7 +326,7 @@ pub fn run<D: Disk + Drop>(
             let mut taken = Taken::new(alloc);
             journal = match opened(alloc, journal.close(), &mut taken) {
                 Ok(journal) => journal,
-                Err(files) => return Ok(files),
+                Err(refused) => return Ok(refused.files),
             };
             if !expected.allows(alloc, &taken.records(alloc)?)? {
                 return Err("what was committed".into());
@@ -377,6 +368,7 @@ pub fn refuses<D: Disk>(alloc: Global, journal: &mut Journal<D>) -> Result<bool,
             && journal.begin_anew().is_err()
             && journal.read_again(&mut retained).is_err()
             && journal.shorten(&retained).is_err()
+            && journal.sync().is_err()
             && journal.checkpoint().is_err(),
     )
 }
@@ -392,7 +384,8 @@ pub fn drawn(alloc: Global, from: u64, to: u64) -> Result<Vec<Step>, Fail> {
             1 => Step::Shorten,
             2 => Step::Checkpoint,
             3 => Step::Reopen,
-            4..=7 => Step::Commit,
+            4 => Step::Sync,
+            5..=7 => Step::Commit,
             _ => Step::Push(n),
         };
         steps.push(step)?;
@@ -445,8 +438,8 @@ impl Image {
             (u64::MAX, calls)
         };
         Ok(Files {
-            log: Faulty::new(file_of(alloc, &self.log)?, failing, log),
-            db: Faulty::new(file_of(alloc, &self.db)?, failing, db),
+            log: Faulty::new(alloc, file_of(alloc, &self.log)?, failing, log),
+            db: Faulty::new(alloc, file_of(alloc, &self.db)?, failing, db),
         })
     }
 

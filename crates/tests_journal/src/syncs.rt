@@ -1,7 +1,7 @@
 //! When files are synced, what a closed journal does, and when a log is long.
 
 use crate::faulty::{Failing, Faulty};
-use crate::script::{Image, Taken, journal_over, operation, refuses};
+use crate::script::{Image, Taken, opened, operation, refuses};
 use rs_journal::{Journal, Switch, Switched, WriteFault};
 use sqlite_disk::{Disk, Files, Memory};
 use std::alloc::Global;
@@ -9,31 +9,33 @@ use std::test::Fail;
 
 /// A disk in memory of which each sync fails that is made.
 fn disk(alloc: Global, switch: &Switch) -> Result<Switched<Faulty<Memory>>, Fail> {
-    let faulty = Faulty::new(Memory::new(alloc), Failing::Syncs, u64::MAX);
+    let faulty = Faulty::new(alloc, Memory::new(alloc), Failing::Syncs, u64::MAX);
     Ok(Switched::new(faulty, switch.try_clone()?))
 }
 
 /// An open journal over these files.
-fn opened<D: Disk + Drop>(alloc: Global, files: Files<D>) -> Result<Journal<D>, Fail> {
-    let Ok(mut journal) = journal_over(alloc, files) else {
-        return Err("files that may be used".into());
-    };
-    if journal.open(&mut Taken::new(alloc)).is_err() {
-        return Err("a journal that opens".into());
+fn journal_of<D: Disk + Drop>(alloc: Global, files: Files<D>) -> Result<Journal<D>, Fail> {
+    match opened(alloc, files, &mut Taken::new(alloc)) {
+        Ok(journal) => Ok(journal),
+        Err(_) => Err("a journal that opens".into()),
     }
-    Ok(journal)
+}
+
+/// An open journal over two such disks, whose switch is off.
+fn unsynced(alloc: Global, switch: &Switch) -> Result<Journal<Switched<Faulty<Memory>>>, Fail> {
+    switch.set(false);
+    let files = Files {
+        log: disk(alloc, switch)?,
+        db: disk(alloc, switch)?,
+    };
+    journal_of(alloc, files)
 }
 
 #[test]
 fn a_commit_syncs_while_the_switch_is_on(rt: HostRuntime) -> Result<(), Fail> {
     let alloc = rt.alloc();
     let switch = Switch::new(alloc)?;
-    switch.set(false);
-    let files = Files {
-        log: disk(alloc, &switch)?,
-        db: disk(alloc, &switch)?,
-    };
-    let mut journal = opened(alloc, files)?;
+    let mut journal = unsynced(alloc, &switch)?;
     assert!(rt; journal.push(&operation(alloc, 2)?).is_ok());
     assert!(rt; journal.commit().is_ok());
 
@@ -46,9 +48,26 @@ fn a_commit_syncs_while_the_switch_is_on(rt: HostRuntime) -> Result<(), Fail> {
 }
 
 #[test]
+fn a_sync_writes_though_nothing_was_pushed(rt: HostRuntime) -> Result<(), Fail> {
+    let alloc = rt.alloc();
+    let switch = Switch::new(alloc)?;
+    let mut journal = unsynced(alloc, &switch)?;
+    let pages = journal.page_count();
+    assert!(rt; journal.sync().is_ok());
+    assert!(rt; journal.page_count() > pages);
+
+    // A commit of nothing makes no sync, and so none that fails.
+    switch.set(true);
+    assert!(rt; journal.commit().is_ok());
+    assert!(rt; matches!(journal.sync(), Err(WriteFault::Doubtful(_))));
+    assert!(rt; refuses(alloc, &mut journal)?);
+    Ok(())
+}
+
+#[test]
 fn a_log_is_long_after_some_thousand_pages(rt: HostRuntime) -> Result<(), Fail> {
     let alloc = rt.alloc();
-    let mut journal = opened(alloc, Image::new(alloc).sound(alloc)?)?;
+    let mut journal = journal_of(alloc, Image::new(alloc).sound(alloc)?)?;
     assert!(rt; journal.is_log_long());
     assert!(rt; journal.checkpoint().is_ok());
     assert!(rt; !journal.is_log_long());
@@ -59,10 +78,19 @@ fn a_log_is_long_after_some_thousand_pages(rt: HostRuntime) -> Result<(), Fail> 
         assert!(rt; journal.push(&large).is_ok());
     }
     assert!(rt; journal.page_count() > 4000);
+
+    // Most of them are in the log already, so nothing is copied.
+    assert!(rt; journal.checkpoint().is_ok());
+    assert!(rt; journal.is_log_long());
     assert!(rt; journal.commit().is_ok());
     assert!(rt; journal.is_log_long());
 
     // No commit copies the log by itself.
-    assert!(rt; journal.close().db.inner.bytes().len() < 100_000);
+    let files = journal.close();
+    assert!(rt; files.db.inner.bytes().len() < 100_000);
+    let mut journal = journal_of(alloc, files)?;
+    assert!(rt; journal.checkpoint().is_ok());
+    assert!(rt; !journal.is_log_long());
+    assert!(rt; journal.close().db.inner.bytes().len() > 4_000_000);
     Ok(())
 }

@@ -2,14 +2,17 @@
 
 ghost use Rattle.std.specs.Prelude.{◌≡◌};
 ghost use Rattle.rs_journal.specs.OpenFaults.{fault_of};
-ghost use Rattle.rs_journal.specs.declared.pages.fault.OpenFault.TheVariants.{NoMemory};
+ghost use Rattle.rs_journal.specs.declared.pages.fault.OpenFault.TheVariants.{NoMemory, Disk};
+ghost use Rattle.sqlite_wal.specs.declared.error.Error.TheVariants.{Io};
 
+use sqlite_disk::{Disk, Files};
 use sqlite_pager::Error;
 use std::alloc::AllocError;
+use std::io;
 use thiserror::Error as ErrorMessage;
 
-/// Why the stream of two files cannot be opened. If anything was made in them, the file of pages is as it was; a log that is none may be
-/// cut off and get a new head.
+/// Why the stream of two files cannot be opened. Only after `Damaged`, `NoMemory` and `Disk` may a log be others than it was: a part of it
+/// that no commit ends may be overwritten.
 #[derive(Clone, Copy, Debug, ErrorMessage)]
 pub enum OpenFault {
     /// The files are of another program, or damaged in their heads.
@@ -18,9 +21,15 @@ pub enum OpenFault {
     /// They are of another version of this form.
     #[error("the files have version {0} of their form and this program reads version 1; use the program that wrote them")]
     Version(u8),
-    /// A page has a number that no page can have there.
+    /// The head has two numbers, or a page has a number that no page can have there.
     #[error("the files are damaged; restore them from a copy, or move them away to begin with none")]
     Damaged,
+    /// The file of pages is empty or was missing, and the log is not.
+    #[error("the file of pages is empty and its log, which ends in -wal, is not; restore both from a copy, or move the log away to begin with none")]
+    LoneLog,
+    /// What stands in the place of the log is none.
+    #[error("the file whose name ends in -wal is no log of a retained store; move it away, or restore both files from a copy")]
+    ForeignLog,
     /// Memory was refused.
     #[error("memory ran out while the files were read; try again later")]
     NoMemory,
@@ -37,6 +46,22 @@ impl From<AllocError> for OpenFault {
     }
 }
 
+impl From<io::Error> for OpenFault {
+    ghost from_gives = { λ e r. r ≡ Disk (Io e) };
+
+    fn from(error: io::Error) -> OpenFault {
+        OpenFault::Disk(Error::Io(error))
+    }
+}
+
+impl From<Error> for OpenFault {
+    ghost from_gives = { λ e r. r ≡ fault_of e };
+
+    fn from(error: Error) -> OpenFault {
+        fault_from(error)
+    }
+}
+
 /// What the error of a pager means when files are opened.
 pub(crate) fn fault_from(error: Error) -> OpenFault
     ensures { result ≡ fault_of error }
@@ -46,4 +71,12 @@ pub(crate) fn fault_from(error: Error) -> OpenFault
         Error::Corrupt => OpenFault::Foreign,
         other => OpenFault::Disk(other),
     }
+}
+
+/// Files that are given back because they were not opened.
+#[derive(Drop)]
+pub struct NotOpened<D: Disk, F> {
+    /// Why.
+    pub fault: F,
+    pub files: Files<D>,
 }

@@ -7,10 +7,9 @@ ghost use Rattle.sqlite_pager.specs.Pager.{state, visible, page_count as pages_o
 ghost use Rattle.rs_journal.specs.Pages.{page_size, part_size, PutsPage};
 
 use crate::pages::extent::Extent;
-use crate::pages::form::{PAGE_SIZE, PART_SIZE, form_head, form_page, read_page};
+use crate::pages::form::{PART_SIZE, form_head, form_page, read_page};
 use sqlite_disk::{Disk, Files};
-use sqlite_pager::{Error, Options, PageSize, Pager};
-use std::alloc::{AllocFailed, Global};
+use sqlite_pager::{Error, Pager};
 
 /// So many pages in the log are a reason to copy them: they take some ten milliseconds.
 pub(crate) const LONG_LOG: u32 = 4000;
@@ -29,8 +28,6 @@ pub struct PageStream<D: Disk> {
     pub(crate) page: Vec<u8>,
     /// How many pages went to the log since it was copied, or `LONG_LOG` while that is not known.
     pub(crate) logged: u32,
-    /// Whether the last opening found the stream.
-    pub(crate) is_found: bool,
     ghost sized: { (state pager).page_size ≡ page_size },
     ghost short: { length tail.items ≤ part_size },
 }
@@ -54,40 +51,7 @@ fn put_page<D: Disk>(pager: &mut Pager<D>, at: u32, page: &[u8]) -> Result<(), E
 
 impl<D: Disk> PageStream<D> {
     ghost use Rattle.rs_journal.specs.Images.{Keeps as HasImage};
-    ghost use Rattle.rs_journal.specs.Streams.{files_of, may_leave, image, page_count, AreUsable, IsClean, IsOpen, IsSound, AddsNoOutcome, GoesOn, HasFailed, HasSpilled, fault_count, log_len, part_at, SameParts, Stands, Holds, Rests, StaysClosed};
-
-    /// A stream over these files, which [`open`](PageStream::open) has to read first.
-    pub fn new(
-        alloc: Global,
-        files: Files<D>,
-        seed: u64,
-    ) -> Result<PageStream<D>, AllocFailed<Files<D>>>
-        requires { IsTrue (D.Disk.is_usable files.log) × IsTrue (D.Disk.is_usable files.db) }
-        ensures back { IfErr result (λ e. e.value ≡ files) }
-        ensures over { IfOk result (λ it. files_of it ≡ (files.log, files.db)) }
-        ensures usable { IfOk result AreUsable }
-        ensures closed { IfOk result (λ it. ¬ IsOpen it) }
-    {
-        // No commit copies the log by itself: whoever lets the files be synced only now and then has to choose the moment.
-        let options = Options {
-            cache_pages: 16,
-            spill_pages: 1000,
-            checkpoint_frames: usize::MAX,
-            seed,
-        };
-        let size = PageSize::new(PAGE_SIZE).unwrap();
-        let pager = Pager::new(alloc, files, size, options)?;
-        let nothing = Extent { first: 0, count: 0 };
-        Ok(PageStream {
-            pager,
-            standing: nothing,
-            seen: nothing,
-            tail: Vec::new(alloc),
-            page: Vec::new(alloc),
-            logged: LONG_LOG,
-            is_found: false,
-        })
-    }
+    ghost use Rattle.rs_journal.specs.Streams.{files_of, may_leave, image, page_count, IsClean, IsOpen, IsSound, AddsNoOutcome, GoesOn, HasFailed, HasSpilled, fault_count, log_len, part_at, SameParts, Stands, Holds, Rests, StaysClosed};
 
     /// Gives the files back. What is not committed is lost.
     pub fn close(self) -> Files<D>
@@ -100,26 +64,15 @@ impl<D: Disk> PageStream<D> {
             tail: _,
             page: _,
             logged: _,
-            is_found: _,
         } = self;
         pager.close()
     }
 
-    /// Whether the last opening succeeded, and nothing has failed since that asks for a new one.
+    /// Whether nothing has failed since its opening that asks for a new one.
     pub fn is_open(&self) -> bool
         ensures { IsTrue result ↔ IsOpen self.now }
     {
-        self.is_found && self.pager.is_open()
-    }
-
-    /// Refuses each call from here on, until the next opening. The files are not touched.
-    pub fn shut(&mut self)
-        ensures closed { ¬ IsOpen self.new }
-        ensures files { files_of self.new ≡ files_of self.old }
-        ensures clean { IsClean self.new → IsClean self.old }
-        ensures outcomes { (left : Image) → may_leave self.new left → may_leave self.old left }
-    {
-        self.is_found = false;
+        self.pager.is_open()
     }
 
     /// How many pages the stream takes.
@@ -133,6 +86,16 @@ impl<D: Disk> PageStream<D> {
     /// be long from before.
     pub fn is_log_long(&self) -> bool {
         self.logged >= LONG_LOG
+    }
+
+    /// How many pages are in the log behind a checkpoint, as far as is known. If pages were put since the last commit, they go there behind
+    /// it, or are there already, so that nothing was copied.
+    fn left_in_log(&self) -> u32 {
+        if self.seen.first == self.standing.first && self.seen.count == self.standing.count {
+            0
+        } else {
+            self.logged
+        }
     }
 
     /// Forgets what was pushed since the last commit.
@@ -152,6 +115,7 @@ impl<D: Disk> PageStream<D> {
     fn put_tail(&mut self) -> Result<(), Error>
         ensures put { OnOk result ((standing seen : List ℕ) → Holds self.old standing seen → Holds self.new standing seen) }
         ensures empty { OnOk result (self.new.tail.items ≡ []) }
+        ensures more { OnOk result (page_count self.new ≡ page_count self.old + 1) }
         ensures goes_on { GoesOn self.old self.new }
     {
         let (Some(at), Some(number)) = (self.seen.next_page(), self.seen.next_number()) else {
@@ -274,6 +238,7 @@ impl<D: Disk> PageStream<D> {
     fn flush(&mut self) -> Result<(), Error>
         ensures holds { OnOk result ((standing seen : List ℕ) → Holds self.old standing seen → Holds self.new standing seen) }
         ensures empty { OnOk result (self.new.tail.items ≡ []) }
+        ensures pages { OnOk result (page_count self.old ≤ page_count self.new) }
         ensures goes_on { GoesOn self.old self.new }
     {
         if self.tail.is_empty() {
@@ -289,6 +254,7 @@ impl<D: Disk> PageStream<D> {
         ensures still { OnOk result (IsOpen self.new) }
         ensures closes { IsOpen self.old → ¬ IsOpen self.new → HasFailed self.old self.new }
         ensures done { OnOk result ((standing seen : List ℕ) → Holds self.old standing seen → Rests self.new seen) }
+        ensures pages { OnOk result (page_count self.old ≤ page_count self.new) }
         ensures stands { OnErr result (IsOpen self.new → (standing seen : List ℕ) → Holds self.old standing seen → Stands self.new standing) }
         ensures crash { (standing seen : List ℕ) → Holds self.old standing seen → (left : Image) → may_leave self.new left → HasImage left standing ⊎ HasImage left seen }
     {
@@ -311,10 +277,43 @@ impl<D: Disk> PageStream<D> {
         ensures still { OnOk result (IsOpen self.new) }
         ensures closes { IsOpen self.old → ¬ IsOpen self.new → HasFailed self.old self.new }
         ensures done { OnOk result ((standing seen : List ℕ) → Holds self.old standing seen → Rests self.new seen) }
+        ensures pages { OnOk result (page_count self.old ≤ page_count self.new) }
         ensures refused { OnErr result (IsOpen self.new → (standing seen : List ℕ) → Holds self.old standing seen → Rests self.new standing) }
         ensures crash { (standing seen : List ℕ) → Holds self.old standing seen → (left : Image) → may_leave self.new left → HasImage left standing ⊎ HasImage left seen }
     {
         match self.commit_all() {
+            Ok(()) => Ok(()),
+            Err(error) => {
+                self.rollback();
+                Err(error)
+            }
+        }
+    }
+
+    /// Puts what was pushed into pages, and a page more, which may be empty.
+    fn put_last(&mut self) -> Result<(), Error>
+        ensures open { OnOk result (IsOpen self.old) }
+        ensures closed { ¬ IsOpen self.old → StaysClosed self.old self.new }
+        ensures holds { OnOk result ((standing seen : List ℕ) → Holds self.old standing seen → Holds self.new standing seen) }
+        ensures empty { OnOk result (self.new.tail.items ≡ []) }
+        ensures more { OnOk result (page_count self.new ≡ page_count self.old + 1) }
+        ensures goes_on { GoesOn self.old self.new }
+    {
+        self.check_open()?;
+        self.put_tail()
+    }
+
+    /// Puts what was pushed into pages, and a page more, which may be empty, so that the next commit writes. At an error what was pushed
+    /// since the last commit is forgotten. A closed stream refuses it.
+    pub fn push_page(&mut self) -> Result<(), Error>
+        ensures open { OnOk result (IsOpen self.old) }
+        ensures closed { ¬ IsOpen self.old → StaysClosed self.old self.new }
+        ensures holds { OnOk result ((standing seen : List ℕ) → Holds self.old standing seen → Holds self.new standing seen) }
+        ensures more { OnOk result (page_count self.old < page_count self.new) }
+        ensures refused { OnErr result ((standing seen : List ℕ) → Holds self.old standing seen → Rests self.new standing) }
+        ensures crash { AddsNoOutcome self.old self.new }
+    {
+        match self.put_last() {
             Ok(()) => Ok(()),
             Err(error) => {
                 self.rollback();
@@ -337,7 +336,7 @@ impl<D: Disk> PageStream<D> {
         self.check_open()?;
         match self.pager.checkpoint() {
             Ok(()) => {
-                self.logged = 0;
+                self.logged = self.left_in_log();
                 Ok(())
             }
             Err(error) => Err(error),

@@ -54,7 +54,7 @@ overflow_cast-len g c =
     omega (arith, small_record operation c.in_ok-put_record.ensures.fits, ap length is, out.ok.0, c.len-len.ensures)
 
 pub returns-in_err-put_record-clause-closed : goal.returns-in_err-put_record-clause-closed
-returns-in_err-put_record-clause-closed g c = closed_same c.args.self.now.stream _ refl refl
+returns-in_err-put_record-clause-closed g c = closed_same c.args.self.now.stream _ refl
 
 pub returns-in_err-push-clause-closed : goal.returns-in_err-push-clause-closed
 returns-in_err-push-clause-closed g c = c.push.ensures.closed

@@ -68,7 +68,7 @@ returns-clause-read g c =
           let bytes = c.loop-index.bytes in
           let all : c.loop-index.index ≡ it.seen.count = omega (arith, c.loop-index-test.false, c.loop-index.auto.index-end, c.page_count-index-end.ensures) in
           let long : length bytes.items ≡ vec_len bytes = omega (arith, bytes.ok.0) in
-          let sound = open_from (state it.pager) ready.0 (inv.clean clean) in
+          let sound = open_from (state it.pager) ready (inv.clean clean) in
           all_read (front it c.loop-index.index) standing bytes.items inv.read.0
           (ap (front it) all ∙ all_parts it standing rests sound) (inv.read.3 clean) (none_left bytes.items (vec_len bytes) (sym c.is_empty.ensures ∙ c.if-not-is_empty.false) long),
     )
@@ -150,7 +150,7 @@ returns-in_err-whole-clause-refused g c =
     let index = c.loop-index.index in
     let inv = c.loop-index.invariant in
     let was = c.read_part.ensures.same.clean clean in
-    let sound = open_from (state it.pager) ready.0 (inv.clean was) in
+    let sound = open_from (state it.pager) ready (inv.clean was) in
     let behind = joined_behind (visible it.pager) (index + 1) (it.seen.count - (index + 1)) in
     let count : it.seen.count ≡ index + 1 + (it.seen.count - (index + 1)) = omega (arith, c.loop-index-test.true, c.page_count-index-end.ensures) in
     wrong_page c.in_err-whole.field-0.0 (front it index) (front it (index + 1)) (part_at mid index) c.loop-index.bytes.items c.read_part.new.out.items c.deref.result.now standing behind.0 inv.read.0
@@ -165,6 +165,6 @@ returns-then-not-is_empty-clause-refused g c = λ standing rests ready clean.
     let bytes = c.loop-index.bytes in
     let all : it.seen.count ≡ c.loop-index.index = omega (arith, c.loop-index-test.false, c.loop-index.auto.index-end, c.page_count-index-end.ensures) in
     let long : vec_len bytes ≡ length bytes.items = omega (arith, bytes.ok.0) in
-    let sound = open_from (state it.pager) ready.0 (inv.clean clean) in
+    let sound = open_from (state it.pager) ready (inv.clean clean) in
     wrong_behind Damaged standing bytes.items inv.read.0 (sym (all_parts it standing rests sound) ∙ ap (front it) all ∙ inv.read.3 clean) inv.read.2
     (wrong_end bytes.items (some_left bytes.items (vec_len bytes) (sym c.is_empty.ensures ∙ c.if-not-is_empty.true) long) inv.rest)

@@ -1,9 +1,9 @@
-use Rattle.std.proofs.Common.{◌≡◌, ℕ, List, Ok, Some, refl, sym, ap, subst, ◌∙◌}
+use Rattle.std.proofs.Common.{◌≡◌, inl, ℕ, List, Ok, Some, refl, sym, ap, subst, ◌∙◌}
 use Rattle.sqlite_wal.specs.Recovery.{Pages}
 use Rattle.sqlite_wal.proofs.StateLemmas.{Keeps-trans}
 use Rattle.sqlite_pager.specs.Pager.{visible}
 use Rattle.rs_journal.specs.Pages.{AreNumbered, IsHead}
-use Rattle.rs_journal.proofs.OpenLemmas.{clean_along, wrong_page}
+use Rattle.rs_journal.proofs.OpenLemmas.{clean_along, wrong_page, wrong_refuses}
 use Rattle.rs_journal.proofs.StreamLemmas.{some_is}
 use Rattle.rs_journal.proofs.pages.opening.find_extent.Goals as goal
 
@@ -61,3 +61,6 @@ returns-in-Ok-None-clause-keeps g c = Keeps-trans _ _ _ c.load.ensures.keeps c.c
 
 pub returns-in-Err-count_pages-clause-keeps : goal.returns-in-Err-count_pages-clause-keeps
 returns-in-Err-count_pages-clause-keeps g c = Keeps-trans _ _ _ c.load.ensures.keeps c.count_pages.ensures.keeps
+
+pub returns-in-Err-read_head-clause-kind : goal.returns-in-Err-read_head-clause-kind
+returns-in-Err-read_head-clause-kind g c = inl (wrong_refuses c.in-Err-read_head.fault c.loaded.result.now c.in-Err-read_head.ensures.err)

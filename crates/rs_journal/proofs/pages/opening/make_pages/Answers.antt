@@ -57,3 +57,16 @@ pub returns-in-Err-clause-untouched : goal.returns-in-Err-clause-untouched
 returns-in-Err-clause-untouched g c = λ made.
     AddsNothing-fewer 1024 (state c.args.pager.now).may_leave (state c.create.new.self).may_leave
     (c.create.ensures.untouched (λ blank. made (subst (λ (l : List ℕ). IsBlank l (image c.args.pager.now)) c.requires.head blank)))
+
+pub returns-in-Ok-clause-kept : goal.returns-in-Ok-clause-kept
+returns-in-Ok-clause-kept g c = λ made clean. absurd (made (subst (λ (l : List ℕ). IsBlank l (image c.args.pager.now)) c.requires.head (c.in-Ok.ensures.blank clean)))
+
+pub returns-in-Err-Exists-clause-kept : goal.returns-in-Err-Exists-clause-kept
+returns-in-Err-Exists-clause-kept g c = λ made clean.
+    let begun : ¬ IsBlank c.args.first.now (image c.args.pager.now) = λ blank. made (subst (λ (l : List ℕ). IsBlank l (image c.args.pager.now)) c.requires.head blank) in
+    record { same = c.create.ensures.there clean begun; leaves = c.create.ensures.untouched begun }
+
+pub returns-in-Err-clause-kept : goal.returns-in-Err-clause-kept
+returns-in-Err-clause-kept g c = λ made clean.
+    let begun : ¬ IsBlank c.args.first.now (image c.args.pager.now) = λ blank. made (subst (λ (l : List ℕ). IsBlank l (image c.args.pager.now)) c.requires.head blank) in
+    record { same = c.create.ensures.there clean begun; leaves = c.create.ensures.untouched begun }

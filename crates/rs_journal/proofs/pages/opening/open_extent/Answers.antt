@@ -1,5 +1,5 @@
 use Rattle.std.proofs.Common.{inl, [], Err, Ok, refl, sym, ap, subst, ◌∙◌}
-use Rattle.sqlite_wal.specs.Recovery.{Image, Pages, IsBlank}
+use Rattle.sqlite_wal.specs.Recovery.{Image, Pages, IsBlank, IsUnreadable}
 use Rattle.sqlite_wal.proofs.StateLemmas.{AddsNothing-trans}
 use Rattle.sqlite_pager.specs.Pager.{image, state, visible}
 use Rattle.rs_journal.specs.Pages.{HasStream, head_form, joined}
@@ -7,6 +7,7 @@ use Rattle.rs_journal.specs.Images.{StandsFor}
 use Rattle.rs_journal.specs.declared.pages.fault.OpenFault.{OpenFault}
 use Rattle.rs_journal.specs.OpenFaults.{Explains, IsRefusal}
 use Rattle.rs_journal.proofs.OpenLemmas.{each_fewer, fewer_left, not_recovered, refused_corrupt, same_files}
+use Rattle.rs_journal.proofs.CheckLemmas.{kept_trans}
 use Rattle.rs_journal.proofs.StreamLemmas.{fresh}
 use Rattle.rs_journal.proofs.pages.opening.open_extent.Goals as goal
 
@@ -76,3 +77,35 @@ returns-in-Err-recover_extent-clause-crash g c = λ streams each.
 pub returns-in-Err-clause-refused : goal.returns-in-Err-clause-refused
 returns-in-Err-clause-refused g c = λ refusal clean stream.
     absurd (c.in-Err.ensures.kind (ap Err (refused_corrupt c.in-Err.error (subst IsRefusal c.fault_from.ensures refusal))))
+
+pub returns-in-Ok-true-clause-kept : goal.returns-in-Ok-true-clause-kept
+returns-in-Ok-true-clause-kept g c = λ made unreadable clean. absurd (made (c.in-Ok-true.ensures.blank (ap Ok c.in-Ok-true.field-0-test) clean).0)
+
+pub returns-in-Ok-clause-kept : goal.returns-in-Ok-clause-kept
+returns-in-Ok-clause-kept g c = λ made unreadable clean.
+    let old = c.args.pager.now in
+    let mid = c.make_pages.new.pager in
+    let last = c.recover_extent.new.pager in
+    let only = c.in-Ok-false.ensures.there (ap Ok c.in-Ok-false.field-0-test) in
+    let here = subst (λ (i : Image). IsUnreadable 1024 i) (sym (same_files old mid only)) unreadable in
+    kept_trans (image old) (image mid) (image last) (state old).may_leave (state mid).may_leave (state last).may_leave
+    (c.make_pages.ensures.kept made (c.recover_extent.ensures.honest clean)) (c.recover_extent.ensures.kept here clean)
+
+pub returns-in-Err-recover_extent-clause-kept : goal.returns-in-Err-recover_extent-clause-kept
+returns-in-Err-recover_extent-clause-kept g c = λ made unreadable clean.
+    let old = c.args.pager.now in
+    let mid = c.make_pages.new.pager in
+    let last = c.recover_extent.new.pager in
+    let only = c.in-Ok-false.ensures.there (ap Ok c.in-Ok-false.field-0-test) in
+    let here = subst (λ (i : Image). IsUnreadable 1024 i) (sym (same_files old mid only)) unreadable in
+    kept_trans (image old) (image mid) (image last) (state old).may_leave (state mid).may_leave (state last).may_leave
+    (c.make_pages.ensures.kept made (c.recover_extent.ensures.honest clean)) (c.recover_extent.ensures.kept here clean)
+
+pub returns-in-Err-clause-kept : goal.returns-in-Err-clause-kept
+returns-in-Err-clause-kept g c = λ made unreadable clean. c.make_pages.ensures.kept made clean
+
+pub returns-in-Ok-clause-honest : goal.returns-in-Ok-clause-honest
+returns-in-Ok-clause-honest g c = λ clean. c.make_pages.ensures.honest (c.recover_extent.ensures.honest clean)
+
+pub returns-in-Err-recover_extent-clause-honest : goal.returns-in-Err-recover_extent-clause-honest
+returns-in-Err-recover_extent-clause-honest g c = λ clean. c.make_pages.ensures.honest (c.recover_extent.ensures.honest clean)

@@ -2,8 +2,10 @@ use Rattle.std.proofs.Common.{ℕ, sym, subst, ◌∙◌}
 use Rattle.sqlite_wal.specs.declared.error.Error.{Error}
 use Rattle.sqlite_wal.specs.Files.{RefusesToRecover}
 use Rattle.sqlite_wal.specs.Outcome.{HasCause}
-use Rattle.sqlite_wal.specs.Recovery.{Pages, AddsNothing, IsUnreadable, Recovers}
+use Rattle.sqlite_wal.specs.Recovery.{Pages, AddsNothing, AreWhole, IsUnreadable, Recovers}
 use Rattle.sqlite_pager.specs.Pager.{image, state, visible}
+use Rattle.sqlite_pager.proofs.PagerLemmas.{settled}
+use Rattle.sqlite_wal.proofs.StateLemmas.{open_from}
 use Rattle.rs_journal.specs.Pages.{HasStream, joined}
 use Rattle.rs_journal.specs.declared.pages.fault.OpenFault.{OpenFault}
 use Rattle.rs_journal.specs.OpenFaults.{Explains, IsRefusal}
@@ -93,7 +95,7 @@ returns-in-Err-find_extent-clause-named g c = λ clean.
     let was = c.find_extent.ensures.keeps.stays.clean clean in
     let idle = c.in_default.ensures.clean was in
     let found = subst (λ (n : ℕ). Recovers n (image old) (state mid).committed) c.requires.sized (c.in_default.ensures.found was) in
-    recovered_wrong c.in-Err-find_extent.fault (image old) (visible mid) (subst (λ (p : Pages). Recovers 1024 (image old) p) (sym idle.1) found) (λ refusal. c.in-Err-find_extent.ensures.refused refusal clean)
+    recovered_wrong c.in-Err-find_extent.fault (image old) (visible mid) (subst (λ (p : Pages). Recovers 1024 (image old) p) (sym idle.1) found) (λ refusal. c.in-Err-find_extent.ensures.refused refusal clean) c.in-Err-find_extent.ensures.kind
 
 pub returns-in-Err-find_extent-clause-untouched : goal.returns-in-Err-find_extent-clause-untouched
 returns-in-Err-find_extent-clause-untouched g c =
@@ -102,3 +104,24 @@ returns-in-Err-find_extent-clause-untouched g c =
 pub returns-in-Ok-clause-untouched : goal.returns-in-Ok-clause-untouched
 returns-in-Ok-clause-untouched g c =
     along_reads c.args.pager.now c.recover.new.self c.find_extent.new.pager c.requires.sized c.recover.ensures.size c.recover.ensures.crash c.find_extent.ensures.keeps
+
+pub returns-in-Err-clause-kept : goal.returns-in-Err-clause-kept
+returns-in-Err-clause-kept g c = λ unreadable clean.
+    let wide = subst (λ (n : ℕ). IsUnreadable n (image c.args.pager.now)) (sym c.requires.sized) unreadable in
+    record { same = c.recover.ensures.unreadable clean wide; leaves = c.recover.ensures.still wide }
+
+pub returns-in-Ok-clause-kept : goal.returns-in-Ok-clause-kept
+returns-in-Ok-clause-kept g c = λ unreadable clean.
+    let mid = c.recover.new.self in
+    let was = c.find_extent.ensures.keeps.stays.clean clean in
+    let found = subst (λ (n : ℕ). Recovers n (image c.args.pager.now) (state mid).committed) c.requires.sized (c.in_default.ensures.found was) in
+    let whole = subst (λ (n : ℕ). AreWhole n (state mid).committed) (c.recover.ensures.size ∙ c.requires.sized) (settled mid (open_from (state mid) c.in_default.ensures.ready was) g.met.D.Disk.seen_may_stay).whole in
+    absurd (unreadable (state mid).committed found whole)
+
+pub returns-in-Err-find_extent-clause-kept : goal.returns-in-Err-find_extent-clause-kept
+returns-in-Err-find_extent-clause-kept g c = λ unreadable clean.
+    let mid = c.recover.new.self in
+    let was = c.find_extent.ensures.keeps.stays.clean clean in
+    let found = subst (λ (n : ℕ). Recovers n (image c.args.pager.now) (state mid).committed) c.requires.sized (c.in_default.ensures.found was) in
+    let whole = subst (λ (n : ℕ). AreWhole n (state mid).committed) (c.recover.ensures.size ∙ c.requires.sized) (settled mid (open_from (state mid) c.in_default.ensures.ready was) g.met.D.Disk.seen_may_stay).whole in
+    absurd (unreadable (state mid).committed found whole)

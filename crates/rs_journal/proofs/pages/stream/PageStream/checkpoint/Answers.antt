@@ -23,7 +23,7 @@ pub returns-in-Err-clause-crash : goal.returns-in-Err-clause-crash
 returns-in-Err-clause-crash g c = adds_nothing c.args.self.now c.checkpoint.new.self c.checkpoint.ensures.keeps
 
 pub returns-in_err-check_open-clause-closed : goal.returns-in_err-check_open-clause-closed
-returns-in_err-check_open-clause-closed g c = closed_same c.args.self.now _ refl refl
+returns-in_err-check_open-clause-closed g c = closed_same c.args.self.now _ refl
 
 pub returns-in_err-check_open-clause-crash : goal.returns-in_err-check_open-clause-crash
 returns-in_err-check_open-clause-crash g c = adds_nothing c.args.self.now c.args.self.now.pager (Keeps-refl (state c.args.self.now.pager))

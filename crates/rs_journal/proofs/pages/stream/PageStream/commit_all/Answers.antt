@@ -1,4 +1,4 @@
-use Rattle.std.proofs.Common.{ℕ, List, refl, inl, ◌∙◌}
+use Rattle.std.proofs.Common.{ℕ, List, refl, inl}
 use Rattle.sqlite_wal.proofs.StateLemmas.{StaysOrFails-trans, clean_of}
 use Rattle.sqlite_pager.specs.Pager.{state}
 use Rattle.rs_journal.specs.Streams.{IsOpen, Holds, Stands}
@@ -13,7 +13,7 @@ returns-in-Err-clause-crash g c = λ standing seen holds left may. inl (leaves_o
 
 pub returns-in-Err-commit-clause-stands : goal.returns-in-Err-commit-clause-stands
 returns-in-Err-commit-clause-stands g c = λ ready standing seen holds.
-    stands_uncommitted c.flush.new.self _ standing seen g.met.D.Disk.seen_may_stay ready.0 (λ sound. c.commit.ensures.crash.stays.was_open sound) (λ sound. c.in-Err-commit.ensures.err sound) refl
+    stands_uncommitted c.flush.new.self _ standing seen g.met.D.Disk.seen_may_stay ready (λ sound. c.commit.ensures.crash.stays.was_open sound) (λ sound. c.in-Err-commit.ensures.err sound) refl
     (c.in_default.ensures.holds standing seen holds)
 
 pub returns-in-Err-commit-clause-crash : goal.returns-in-Err-commit-clause-crash
@@ -41,7 +41,7 @@ pub returns-in_err-check_open-clause-crash : goal.returns-in_err-check_open-clau
 returns-in_err-check_open-clause-crash g c = λ standing seen holds left may. inl (leaves_of c.args.self.now standing (stands_of c.args.self.now standing seen holds) left may)
 
 pub returns-in_err-check_open-clause-closed : goal.returns-in_err-check_open-clause-closed
-returns-in_err-check_open-clause-closed g c = closed_same c.args.self.now _ refl refl
+returns-in_err-check_open-clause-closed g c = closed_same c.args.self.now _ refl
 
 pub returns-in-Err-clause-closed : goal.returns-in-Err-clause-closed
 returns-in-Err-clause-closed g c = λ shut. absurd (shut c.in_ok-check_open.ensures)
@@ -56,19 +56,19 @@ pub returns-clause-open : goal.returns-clause-open
 returns-clause-open g c = c.in_ok-check_open.ensures
 
 pub returns-clause-still : goal.returns-clause-still
-returns-clause-still g c = (c.in_default-commit.ensures.ready, c.flush.ensures.goes_on.found ∙ c.in_ok-check_open.ensures.1)
+returns-clause-still g c = c.in_default-commit.ensures.ready
 
 pub returns-in_err-check_open-clause-closes : goal.returns-in_err-check_open-clause-closes
 returns-in_err-check_open-clause-closes g c = λ was shut. absurd (shut was)
 
 pub returns-in-Err-clause-closes : goal.returns-in-Err-clause-closes
 returns-in-Err-clause-closes g c =
-    failed_if_closed (state c.args.self.now.pager) (state c.flush.new.self.pager) c.args.self.now.is_found c.flush.new.self.is_found c.flush.ensures.goes_on.keeps.stays c.flush.ensures.goes_on.found
+    failed_if_closed (state c.args.self.now.pager) (state c.flush.new.self.pager) c.flush.ensures.goes_on.keeps.stays
 
 pub returns-in-Err-commit-clause-closes : goal.returns-in-Err-commit-clause-closes
 returns-in-Err-commit-clause-closes g c =
-    failed_if_closed (state c.args.self.now.pager) (state c.commit.new.self) c.args.self.now.is_found c.flush.new.self.is_found
-    (StaysOrFails-trans (state c.args.self.now.pager) (state c.flush.new.self.pager) (state c.commit.new.self) c.flush.ensures.goes_on.keeps.stays c.commit.ensures.crash.stays) c.flush.ensures.goes_on.found
+    failed_if_closed (state c.args.self.now.pager) (state c.commit.new.self)
+    (StaysOrFails-trans (state c.args.self.now.pager) (state c.flush.new.self.pager) (state c.commit.new.self) c.flush.ensures.goes_on.keeps.stays c.commit.ensures.crash.stays)
 
 pub returns-clause-closes : goal.returns-clause-closes
-returns-clause-closes g c = λ was shut. absurd (shut (c.in_default-commit.ensures.ready, c.flush.ensures.goes_on.found ∙ c.in_ok-check_open.ensures.1))
+returns-clause-closes g c = λ was shut. absurd (shut c.in_default-commit.ensures.ready)

@@ -8,7 +8,7 @@ use Rattle.rs_journal.proofs.pages.stream.PageStream.push_all.Goals as goal
 pub loop-from-init : goal.loop-from-init
 loop-from-init g c = record {
   within = omega arith;
-  goes_on = goes_on_same c.args.self.now c.args.self.now refl refl refl;
+  goes_on = goes_on_same c.args.self.now c.args.self.now refl refl;
   pushed = λ standing seen holds. subst (λ (s : List ℕ). Holds c.args.self.now standing s) (sym (append-nil seen)) holds;
 }
 
@@ -16,7 +16,7 @@ pub returns-in_err-pushed-clause-goes_on : goal.returns-in_err-pushed-clause-goe
 returns-in_err-pushed-clause-goes_on g c = goes_on_trans c.args.self.now c.loop-from.self c.push_part.new.self c.loop-from.invariant.goes_on c.push_part.ensures.goes_on
 
 pub returns-in_err-check_open-clause-goes_on : goal.returns-in_err-check_open-clause-goes_on
-returns-in_err-check_open-clause-goes_on g c = goes_on_same c.args.self.now _ refl refl refl
+returns-in_err-check_open-clause-goes_on g c = goes_on_same c.args.self.now _ refl refl
 
 pub returns-clause-open : goal.returns-clause-open
 returns-clause-open g c = c.in_ok-check_open.ensures
@@ -42,7 +42,7 @@ returns-clause-pushed g c = λ standing seen holds.
     subst (λ (s : List ℕ). Holds c.loop-from.self standing (seen ++ s)) (take_all c.loop-from.from c.args.bytes.now c.loop-from-test.false) (c.loop-from.invariant.pushed standing seen holds)
 
 pub returns-in_err-check_open-clause-closed : goal.returns-in_err-check_open-clause-closed
-returns-in_err-check_open-clause-closed g c = closed_same c.args.self.now _ refl refl
+returns-in_err-check_open-clause-closed g c = closed_same c.args.self.now _ refl
 
 pub returns-in_err-pushed-clause-closed : goal.returns-in_err-pushed-clause-closed
 returns-in_err-pushed-clause-closed g c = λ shut. absurd (shut c.in_ok-check_open.ensures)

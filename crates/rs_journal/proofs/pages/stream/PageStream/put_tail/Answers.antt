@@ -10,10 +10,10 @@ put_page-requires g c =
     ∙ sym c.args.self.now.sized
 
 pub returns-in_err-put_page-clause-goes_on : goal.returns-in_err-put_page-clause-goes_on
-returns-in_err-put_page-clause-goes_on g c = record { keeps = c.put_page.ensures.keeps; standing = refl; found = refl }
+returns-in_err-put_page-clause-goes_on g c = record { keeps = c.put_page.ensures.keeps; standing = refl }
 
 pub returns-clause-goes_on : goal.returns-clause-goes_on
-returns-clause-goes_on g c = record { keeps = c.put_page.ensures.keeps; standing = refl; found = refl }
+returns-clause-goes_on g c = record { keeps = c.put_page.ensures.keeps; standing = refl }
 
 pub returns-clause-put : goal.returns-clause-put
 returns-clause-put g c = λ standing seen holds.
@@ -24,4 +24,4 @@ returns-clause-put g c = λ standing seen holds.
     c.in_ok-put_page.ensures.put refl refl c.clear.ensures.items holds
 
 pub returns-in_err-form_page-clause-goes_on : goal.returns-in_err-form_page-clause-goes_on
-returns-in_err-form_page-clause-goes_on g c = goes_on_same c.args.self.now _ refl refl refl
+returns-in_err-form_page-clause-goes_on g c = goes_on_same c.args.self.now _ refl refl

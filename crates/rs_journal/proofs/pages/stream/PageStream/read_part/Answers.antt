@@ -19,19 +19,19 @@ pub returns-clause-rests : goal.returns-clause-rests
 returns-clause-rests g c = λ standing rests. rests_along c.args.self.now _ standing c.load.ensures.keeps c.load.ensures.pages refl refl refl rests
 
 pub returns-clause-same : goal.returns-clause-same
-returns-clause-same g c = record { clean = c.load.ensures.keeps.stays.clean; pages = refl; parts = λ n. ap (λ (p : Pages). joined p n) c.load.ensures.pages; open_same = λ h. (c.load.ensures.open ∙ h.0, h.1) }
+returns-clause-same g c = record { clean = c.load.ensures.keeps.stays.clean; pages = refl; parts = λ n. ap (λ (p : Pages). joined p n) c.load.ensures.pages; open_same = λ h. c.load.ensures.open ∙ h }
 
 pub returns-in_err-load-clause-rests : goal.returns-in_err-load-clause-rests
 returns-in_err-load-clause-rests g c = λ standing rests. rests_along c.args.self.now _ standing c.load.ensures.keeps c.load.ensures.pages refl refl refl rests
 
 pub returns-in_err-load-clause-same : goal.returns-in_err-load-clause-same
-returns-in_err-load-clause-same g c = record { clean = c.load.ensures.keeps.stays.clean; pages = refl; parts = λ n. ap (λ (p : Pages). joined p n) c.load.ensures.pages; open_same = λ h. (c.load.ensures.open ∙ h.0, h.1) }
+returns-in_err-load-clause-same g c = record { clean = c.load.ensures.keeps.stays.clean; pages = refl; parts = λ n. ap (λ (p : Pages). joined p n) c.load.ensures.pages; open_same = λ h. c.load.ensures.open ∙ h }
 
 pub returns-in_err-extend_from_slice-clause-rests : goal.returns-in_err-extend_from_slice-clause-rests
 returns-in_err-extend_from_slice-clause-rests g c = λ standing rests. rests_along c.args.self.now _ standing c.load.ensures.keeps c.load.ensures.pages refl refl refl rests
 
 pub returns-in_err-extend_from_slice-clause-same : goal.returns-in_err-extend_from_slice-clause-same
-returns-in_err-extend_from_slice-clause-same g c = record { clean = c.load.ensures.keeps.stays.clean; pages = refl; parts = λ n. ap (λ (p : Pages). joined p n) c.load.ensures.pages; open_same = λ h. (c.load.ensures.open ∙ h.0, h.1) }
+returns-in_err-extend_from_slice-clause-same g c = record { clean = c.load.ensures.keeps.stays.clean; pages = refl; parts = λ n. ap (λ (p : Pages). joined p n) c.load.ensures.pages; open_same = λ h. c.load.ensures.open ∙ h }
 
 pub returns-clause-crash : goal.returns-clause-crash
 returns-clause-crash g c = adds_nothing c.args.self.now c.load.new.self c.load.ensures.keeps

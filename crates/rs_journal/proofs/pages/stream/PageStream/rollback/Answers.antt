@@ -6,13 +6,13 @@ pub returns-clause-rests : goal.returns-clause-rests
 returns-clause-rests g c = λ standing stands. rests_back c.args.self.now _ standing c.rollback.ensures.keeps c.rollback.ensures.clean refl refl c.clear.ensures.items stands
 
 pub returns-clause-open : goal.returns-clause-open
-returns-clause-open g c = (λ h. (sym c.rollback.ensures.ready ∙ h.0, h.1), λ h. (c.rollback.ensures.ready ∙ h.0, h.1))
+returns-clause-open g c = (λ h. sym c.rollback.ensures.ready ∙ h, λ h. c.rollback.ensures.ready ∙ h)
 
 pub returns-clause-crash : goal.returns-clause-crash
 returns-clause-crash g c = adds_nothing c.args.self.now c.rollback.new.self c.rollback.ensures.keeps
 
 pub returns-clause-closed : goal.returns-clause-closed
-returns-clause-closed g c = λ shut. record { closed = λ h. shut (sym c.rollback.ensures.ready ∙ h.0, h.1); files = c.rollback.ensures.files; outcomes = adds_nothing c.args.self.now c.rollback.new.self c.rollback.ensures.keeps }
+returns-clause-closed g c = λ shut. record { closed = λ h. shut (sym c.rollback.ensures.ready ∙ h); files = c.rollback.ensures.files; outcomes = adds_nothing c.args.self.now c.rollback.new.self c.rollback.ensures.keeps }
 
 pub returns-clause-faults : goal.returns-clause-faults
 returns-clause-faults g c = c.rollback.ensures.faults
