@@ -45,8 +45,8 @@ def trial(names, task, *numbers):
 
 
 def peak_memory(task, topics):
-    """The most kilobytes that bench_timings holds while it keeps so many messages. It lets them go one
-    by one, so that it is seen then."""
+    """The most kilobytes that bench_timings holds while it keeps so many messages. It lets them go
+    one by one, so that it is seen then."""
     words = [program("bench_timings"), task, str(topics)]
     running = subprocess.Popen(words, stdout=subprocess.DEVNULL)
     most = 0

@@ -1,5 +1,5 @@
-"""Times puts into a store of versions beside seats that read it all the time, and looks at the
-memory of its copies."""
+"""Times puts into a store of versions beside seats that read it all the time, and the opening of
+one that begins with messages, and looks at the memory of its copies."""
 
 from bench.measure import least, peak_memory, trial, with_rounds
 
@@ -12,6 +12,10 @@ MILLIS = 500
 # The milliseconds that a put may take that sweeps half of so many topics beside so many seats.
 SWEEP_LIMIT = 50
 SWEEP_LOAD = (65_536, 3)
+
+# The milliseconds that the opening of a store may take that begins with so many messages.
+OPENING_LIMIT = 500
+GIVEN = 65_536
 
 # How many times the memory of one catalogue the two of a store of versions may take. They share
 # their messages; two that shared nothing would take twice as much.
@@ -53,6 +57,20 @@ def sweeps_are_short(tries=3):
     return took < SWEEP_LIMIT
 
 
+def opening_millis(given):
+    """The milliseconds that an opening with so many messages takes."""
+    return trial(("open",), "open", given)["open"] / 1_000_000
+
+
+@with_rounds
+def opening_is_short(tries=3):
+    """Whether a store that begins with messages opens soon."""
+    took = least(tries, opening_millis, GIVEN)
+    name = f"opening of a store with {GIVEN:,} messages"
+    print(f"{name}: {took:.0f} ms (at most {OPENING_LIMIT} wanted)")
+    return took <= OPENING_LIMIT
+
+
 def copies_share():
     """Whether two copies take less than twice the memory of one catalogue."""
     one, two = (peak_memory(task, MESSAGES) for task in ("keep", "keep_versions"))
@@ -75,12 +93,13 @@ def is_fast():
     for topics in TOPICS:
         for readers in READERS:
             put_times(topics, readers)
-    return all([sweeps_are_short(), copies_share(), copies_are_small()])
+    return all([sweeps_are_short(), opening_is_short(), copies_share(), copies_are_small()])
 
 
 def once():
     for readers in READERS:
         run(TOPICS[0], readers, 10)
     run(TOPICS[-1], 1, 10)
+    opening_millis(GIVEN)
     for task in ("keep", "keep_versions"):
         peak_memory(task, TOPICS[0])

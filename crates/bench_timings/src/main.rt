@@ -5,7 +5,8 @@
 //! - `full TOPICS`: the adds to a full tree of so many topics, and one that sweeps half of it;
 //! - `window COUNT ROUNDS`: rounds of a window in which so many messages wait, 1 to 100,000;
 //! - `decode ROUNDS` and `encode ROUNDS`: the one packet on standard input, a PUBLISH or a SUBSCRIBE, and what answers it;
-//! - `versions TOPICS SEATS MILLIS`: the puts into a store of versions that so many seats read meanwhile.
+//! - `versions TOPICS SEATS MILLIS`: the puts into a store of versions that so many seats read meanwhile;
+//! - `open TOPICS`: the opening of a store of versions that begins with so many messages, 1 to 65,536.
 //!
 //! `keep TOPICS` and `keep_versions TOPICS` keep so many messages in one tree and in a store of versions, at topics of 64 bytes;
 //! `keep_deep TOPICS` keeps them in a tree, at topics of the most levels, of which each two share all levels but the last.
@@ -78,6 +79,7 @@ fn work<H: Clock + Wait + Threads + Copy + Send + Sync + 'static, R: Read>(
         ("decode", [rounds]) => codec::decoding(rt, alloc, input, number(rounds)?),
         ("encode", [rounds]) => codec::encoding(rt, alloc, input, number(rounds)?),
         ("keep_versions", [limit]) => versions::keep(rt, alloc, topics(limit)?),
+        ("open", [limit]) => versions::opening(rt, alloc, topics(limit)?),
         ("window", [count, rounds]) => { window::work(alloc, number(count)?, number(rounds)?) }
         ("versions", [limit, seats, millis]) => {
             versions::puts(rt, alloc, topics(limit)?, number(seats)?, number(millis)?)

@@ -1,10 +1,10 @@
-//! How long a put takes while seats read.
+//! How long a put takes while seats read, and how long a store that begins with messages takes to open.
 
 ghost use Rattle.std.specs.Prelude.{◌≡◌};
 
-use crate::row::{EARLY, Row, expiring, fill, in_order, timed};
-use kit_test::{Change, Failure, Keeper, Naming, check};
-use rs_message::{MAX_PLACES, PlaceCount};
+use crate::row::{EARLY, Row, expiring, fill, in_order, nanos, timed};
+use kit_test::{Change, Failure, Keeper, Naming, check, operation};
+use rs_message::{Found, MAX_PLACES, Operation, PlaceCount};
 use rs_store::TopicLimit;
 use rs_topic::TopicFilter;
 use rs_version::{Blank, Seat, StoreName, VersionWriter};
@@ -236,4 +236,51 @@ pub fn keep<H: Clock + Threads + Wait + Sync>(
         time: Duration::ZERO,
     };
     measured(rt, alloc, limit, &load)
+}
+
+/// So many messages of topics that differ, in the order of their topics.
+fn messages(alloc: Global, count: u32) -> Result<Vec<Found>, Failure> {
+    let mut given = Vec::with_capacity(alloc, count as usize)?;
+    for number in 0..count {
+        let set = operation(alloc, Naming::Even, u64::from(number), Change::Set(0, None))?;
+        match set {
+            Operation::Set(found) => given.push(found)?,
+            _ => return Err(Failure::Wrong),
+        }
+    }
+    Ok(given)
+}
+
+/// How long the opening takes of a store that begins with these messages. Then each seat has to know them.
+fn timed_open<H: Clock + Wait, N: StoreName>(
+    rt: &H,
+    blank: Blank,
+    given: Vec<Found>,
+) -> Result<u64, Failure>
+    requires { (blank.history ≡ N.history) × (blank.limit ≡ N.limit) }
+{
+    let count = given.len() as u64;
+    let start = Instant::now(rt)?;
+    let opened = blank.open_with::<N, &H>(rt, given);
+    let took = start.elapsed(rt)?;
+    let Ok((_writer, seats)) = opened else {
+        return Err(Failure::Wrong);
+    };
+    for seat in &seats {
+        check(seat.version() == count)?;
+    }
+    Ok(nanos(took))
+}
+
+/// Opens a store of one place that begins with a message of each topic that it may hold.
+pub fn opening<H: Clock + Wait>(
+    rt: &H,
+    alloc: Global,
+    limit: TopicLimit,
+) -> Result<Vec<u64>, Failure> {
+    let places = PlaceCount::new(1).ok_or(Failure::Wrong)?;
+    let given = messages(alloc, limit.get())?;
+    let blank = Blank::new(alloc, limit, places)?;
+    let took = timed_open::<H, Brand>(rt, blank, given)?;
+    Ok(vec![in alloc; took]?)
 }

@@ -9,7 +9,7 @@ use rs_intake::BlankQueue;
 use rs_intake_line::LineName;
 use rs_message::{Operation, SubmitFault};
 use rs_places::{SharedGate, open_gates};
-use rs_places_turns::LineGate;
+use rs_places_steps::LineGate;
 use rs_session::Gate;
 use rs_topic::TopicFilter;
 use rs_version::Blank;

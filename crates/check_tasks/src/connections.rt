@@ -1,14 +1,15 @@
 //! What a client's turn is told of its connections after memory was refused to what serves them.
 
 ghost use Rattle.rs_server.specs.Counts.{failures_of, inner_of};
-ghost use Rattle.rs_places_turns.specs.Ended.{ending_of};
-ghost use Rattle.rs_places_turns.specs.Turns.{TakesBack, none_given};
+ghost use Rattle.rs_places_steps.specs.Ended.{ending_of};
+ghost use Rattle.rs_places_steps.specs.Turns.{TakesBack, none_given};
 
 use crate::groups::blanks;
-use kit_test::{CONNACK, CONNECT, Failure, check, concat, is_concat};
+use kit_places::{PUBACK, PUBLISH};
+use kit_test::{CONNACK, CONNECT, DISCONNECT, Failure, check, concat, is_concat};
 use rs_places::run_store;
 use rs_places_pool::{NoWatch, Runner};
-use rs_places_turns::{Connection, EndedConnection, FreeTurn, Turn};
+use rs_places_steps::{Connection, EndedConnection, FreeTurn, Turn};
 use rs_server::{Clock, Moments, ServeFault, Served, Tally};
 use rs_version::{StoreName, Told};
 use std::alloc::{AllocError, Global};
@@ -23,16 +24,10 @@ const FAILING: u64 = 2;
 /// How many connections the client has.
 const CONNECTIONS: u64 = 3;
 
-/// A retained publication of QoS 1, and its PUBACK, if it is stored and if memory is refused for that.
-const PUBLISH: &[u8] = b"\x33\x07\x00\x01a\x01\x01\x00x";
-
-const PUBACK: &[u8] = b"\x40\x02\x01\x01";
-
+/// The PUBACK if memory is refused for the publication.
 const REFUSED: &[u8] = b"\x40\x03\x01\x01\x97";
 
-/// A DISCONNECT of the client, and one of the server that has no memory.
-const DISCONNECT: &[u8] = b"\xE0\x00";
-
+/// A DISCONNECT of the server that has no memory.
 const NO_MEMORY: &[u8] = b"\xE0\x01\x97";
 
 /// What a connection is counted as.
@@ -62,128 +57,98 @@ struct Row {
     kind: Kind,
 }
 
+/// `NoMemory` before the CONNECT is decoded: to assign an identifier, to read, or to plan.
+const BROKEN: Row = Row {
+    served: Err(ServeFault::NoMemory),
+    packets: 0,
+    no_memory: 0,
+    unknown: 0,
+    written: &[],
+    least: 0,
+    most: 0,
+    kind: Kind::Broken,
+};
+
 /// Each way in which a connection may end, by the rows of the session (docs/SESSION.md).
 const ROWS: &[Row] = &[
     // `Stored`, and then `Disconnected`.
     Row {
         served: Ok(Served::ClientClosed),
         packets: 3,
-        no_memory: 0,
-        unknown: 0,
         written: &[CONNACK, PUBACK],
         least: 1,
         most: 1,
         kind: Kind::Whole,
+        ..BROKEN
     },
     // `Not_stored`, since memory is refused for the message, and then `Disconnected`.
     Row {
         served: Ok(Served::ClientClosed),
         packets: 3,
-        no_memory: 0,
-        unknown: 0,
         written: &[CONNACK, REFUSED],
-        least: 0,
-        most: 0,
         kind: Kind::Refused,
+        ..BROKEN
     },
     // `Not_stored`, since the submit fails with 41, and then `Disconnected`.
     Row {
         served: Ok(Served::ClientClosed),
         packets: 3,
         no_memory: 1,
-        unknown: 0,
         written: &[CONNACK, REFUSED],
-        least: 0,
-        most: 0,
         kind: Kind::Refused,
+        ..BROKEN
     },
     // `Uncertain`, since the submit fails with 42: its entry is held.
     Row {
         served: Ok(Served::ServerClosed(0x97)),
         packets: 2,
-        no_memory: 0,
         unknown: 1,
         written: &[CONNACK, NO_MEMORY],
-        least: 0,
         most: 1,
         kind: Kind::Refused,
+        ..BROKEN
     },
     // `Unexpected`: fault 14 in place of the CONNECT. Nothing is replied.
     Row {
         served: Ok(Served::Dropped),
         packets: 1,
-        no_memory: 0,
-        unknown: 0,
-        written: &[],
-        least: 0,
-        most: 0,
-        kind: Kind::Broken,
+        ..BROKEN
     },
     // `Faulty`: fault 14 in place of the PUBLISH.
     Row {
         served: Ok(Served::ServerClosed(0x97)),
         packets: 2,
-        no_memory: 0,
-        unknown: 0,
         written: &[CONNACK, NO_MEMORY],
-        least: 0,
-        most: 0,
-        kind: Kind::Broken,
+        ..BROKEN
     },
     // `Stored`, and then `Faulty`: fault 14 in place of the DISCONNECT.
     Row {
         served: Ok(Served::ServerClosed(0x97)),
         packets: 3,
-        no_memory: 0,
-        unknown: 0,
         written: &[CONNACK, PUBACK, NO_MEMORY],
         least: 1,
         most: 1,
-        kind: Kind::Broken,
+        ..BROKEN
     },
-    // `NoMemory` before the CONNECT is decoded: to assign an identifier, to read, or to plan.
-    Row {
-        served: Err(ServeFault::NoMemory),
-        packets: 0,
-        no_memory: 0,
-        unknown: 0,
-        written: &[],
-        least: 0,
-        most: 0,
-        kind: Kind::Broken,
-    },
+    BROKEN,
     // `NoMemory` at the CONNACK of `Accepted`.
     Row {
-        served: Err(ServeFault::NoMemory),
         packets: 1,
-        no_memory: 0,
-        unknown: 0,
-        written: &[],
-        least: 0,
-        most: 0,
-        kind: Kind::Broken,
+        ..BROKEN
     },
     // `NoMemory` at the reply of `Stored`, or of `Faulty` in place of the PUBLISH.
     Row {
-        served: Err(ServeFault::NoMemory),
         packets: 2,
-        no_memory: 0,
-        unknown: 0,
         written: &[CONNACK],
-        least: 0,
         most: 1,
-        kind: Kind::Broken,
+        ..BROKEN
     },
     // `NoMemory` at the reply of `Not_stored`.
     Row {
-        served: Err(ServeFault::NoMemory),
         packets: 2,
         no_memory: 1,
-        unknown: 0,
         written: &[CONNACK],
-        least: 0,
-        most: 0,
-        kind: Kind::Broken,
+        ..BROKEN
     },
 ];
 
@@ -324,7 +289,7 @@ pub fn work<H: Wait + Threads + Copy + Send + Sync + 'static>(
     let mut turns = Vec::new(alloc);
     turns.push(FreeTurn::new(turn))?;
     let runner = Runner::<NoWatch>::OneEach;
-    let Ok(end) = run_store(*rt, alloc, blank, queue, turns, runner) else {
+    let Ok(end) = run_store(*rt, alloc, blank, Vec::new(alloc), queue, turns, runner) else {
         return Err(Failure::NoMemory);
     };
     check(end.changes.is_some())?;

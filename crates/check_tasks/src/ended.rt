@@ -25,7 +25,7 @@ pub fn work<H: Wait + Threads + Copy + Send + Sync + 'static>(
     }
     let (blank, queue) = blanks(alloc, CLIENTS)?;
     let two = lanes(*rt, alloc, 2, Manner::InOrder)?;
-    let Ok(end) = run_store(*rt, alloc, blank, queue, turns, two) else {
+    let Ok(end) = run_store(*rt, alloc, blank, Vec::new(alloc), queue, turns, two) else {
         return Err(Failure::NoMemory);
     };
     let all = EACH.saturating_mul(u64::from(CLIENTS));

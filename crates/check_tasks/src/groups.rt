@@ -1,7 +1,8 @@
 //! A store of one seat, with a writer on a thread of its own, and changes that are submitted in groups: what a place was told.
 
-ghost use Rattle.std.specs.Prelude.{◌≡◌, [], All, IfOk, false};
+ghost use Rattle.std.specs.Prelude.{◌≡◌, All, IfOk, false};
 ghost use Rattle.rs_message.specs.Messages.{is_sweep};
+ghost use Rattle.rs_version.specs.First.{AreOwn};
 ghost use Rattle.rs_version.specs.Writer.{kept_of};
 
 use crate::view::View;
@@ -10,7 +11,7 @@ use rs_intake::{BlankQueue, Ended, Queue, blank_queue, run_writer, settle};
 use rs_intake_line::{Intake, LineEnd, LineName, SeatLine};
 use rs_message::{LineCount, Operation, PlaceCount};
 use rs_store::TopicLimit;
-use rs_version::{Blank, Seat, VersionWriter};
+use rs_version::{Blank, Seat, StoreWriter, VersionWriter};
 use std::alloc::{AllocError, Global};
 use std::sync::Wait;
 use std::thread::{JoinHandle, Threads, spawn};
@@ -46,7 +47,7 @@ pub fn open<N: LineName, H: Wait + Copy + Drop>(
 ) -> Result<Opened<N, H>, AllocError>
     requires store { (blank.history ≡ N.history) × (blank.limit ≡ N.limit) }
     requires queue { (queue.name ≡ N.queue) × (queue.places ≡ N.places) }
-    ensures { IfOk result (λ opened. kept_of opened.writer ≡ []) }
+    ensures { IfOk result (λ opened. AreOwn (kept_of opened.writer)) }
 {
     let (writer, seats) = blank.open::<N, H>(rt)?;
     let (intake, lines, queue) = queue.open::<N>()?;
@@ -64,8 +65,8 @@ pub fn start<N: LineName + Send + Sync + 'static, H: Wait + Threads + Copy + Sen
     rt: H,
     queue: Queue<N>,
     writer: VersionWriter<N, H>,
-) -> Result<JoinHandle<Ended<N, H>>, Failure>
-    requires { kept_of writer ≡ [] }
+) -> Result<JoinHandle<Ended<N, VersionWriter<N, H>>>, Failure>
+    requires { AreOwn (kept_of writer) }
 {
     match spawn(&rt, move || run_writer(&rt, queue, writer)) {
         Ok(writer) => Ok(writer),
@@ -251,10 +252,10 @@ impl Left {
 }
 
 /// Waits for the writer, and settles what was sent with what it took.
-pub fn leave<N: LineName, H: Wait + Threads + Copy>(
+pub fn leave<N: LineName, S: StoreWriter<N>, H: Wait + Threads + Copy>(
     rt: &H,
     ends: Vec<LineEnd<N>>,
-    writer: JoinHandle<Ended<N, H>>,
+    writer: JoinHandle<Ended<N, S>>,
 ) -> Left {
     let mut ended = writer.join(rt);
     let settled = settle(ends, &mut ended).ok();

@@ -4,8 +4,8 @@
 //! The words are tasks, which are done one after the other. `examples` can only be the first. Behind it stands the path of a file, whose
 //! examples are served.
 //!
-//! `tree`, `window`, `versions`, `queue` and `clients` look at what a tree, a window, a store of versions, the queue to its writer and
-//! clients that share a seat show after they were refused memory. Each prints of each kind of call how often it was refused memory, kept
+//! `tree`, `window`, `versions`, `given`, `queue` and `clients` look at what a tree, a window, a store of versions, stores that are opened with
+//! messages, the queue to its writer and clients that share a seat show after they were refused memory. Each prints of each kind of call how often it was refused memory, kept
 //! what it owes, and did its work when it was called again: 0 with ample memory. `connections` prints how many connections of a client were
 //! broken off so, and in how many the publication was refused. `ended` serves 200,000 connections by lanes without a refusal, looks at each as
 //! it comes back, and prints how many they were. `reserve` takes all memory itself, and needs a limit of the system.
@@ -18,6 +18,7 @@ mod clients;
 mod connections;
 mod ended;
 mod examples;
+mod given;
 mod groups;
 mod queue;
 mod reserve;
@@ -67,6 +68,7 @@ fn work<H: Wait + Threads + Copy + Send + Sync + 'static>(
         "clients" => clients::work(rt, alloc),
         "connections" => connections::work(rt, alloc),
         "ended" => ended::work(rt, alloc),
+        "given" => given::work(rt, alloc),
         "tree" => tree::work(alloc),
         "queue" => queue::work(rt, alloc),
         "reserve" => reserve::work(rt, alloc),

@@ -11,7 +11,7 @@ use rs_intake::{BlankQueue, Ended};
 use rs_intake_line::{Intake, LineName, SeatLine};
 use rs_message::{Operation, SubmitFault};
 use rs_topic::TopicFilter;
-use rs_version::{Blank, Seat};
+use rs_version::{Blank, Seat, StoreWriter, VersionWriter};
 use std::alloc::Global;
 use std::marker::Brand;
 use std::sync::Wait;
@@ -52,8 +52,8 @@ impl<N: LineName, H: Wait + Copy + Drop> Place for Open<N, H> {
 }
 
 #[derive(Drop)]
-struct Running<N: LineName, H: Wait + Copy + Drop> {
-    writer: JoinHandle<Ended<N, H>>,
+struct Running<N: LineName, S: StoreWriter<N>, H: Wait + Copy + Drop> {
+    writer: JoinHandle<Ended<N, S>>,
     place: Open<N, H>,
 }
 
@@ -62,7 +62,7 @@ fn run<H: Wait + Threads + Copy + Send + Sync + 'static, N: LineName + Send + Sy
     blank: Blank,
     queue: BlankQueue,
     all: TopicFilter,
-) -> Result<Running<N, H>, Failure>
+) -> Result<Running<N, VersionWriter<N, H>, H>, Failure>
     requires store { (blank.history ≡ N.history) × (blank.limit ≡ N.limit) }
     requires queue { (queue.name ≡ N.queue) × (queue.places ≡ N.places) }
 {

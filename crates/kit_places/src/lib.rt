@@ -9,11 +9,11 @@ mod running;
 mod script;
 mod watch;
 
-pub use publisher::{Publisher, publishers};
+pub use publisher::{PUBACK, PUBLISH, Publisher, publishers};
 pub use rows::{
     NONE, PLAIN, PUBLISHES, Row, SMOOTH, SUBSCRIBES, assigned, cut_row, ending, later, plain_row,
     put_rows, scripts,
 };
-pub use running::{Played, as_wanted, outcome, play, run, run_scripts};
+pub use running::{Played, as_wanted, outcome, play, play_given, run, run_given, run_scripts};
 pub use script::{CLOSED, Counts, Course, Input, Output, Script, ScriptClock, comes, free_scripts};
 pub use watch::{Manner, MemoryWatch, lanes};

@@ -1,12 +1,12 @@
 //! Turns that look at very many connections as they come back.
 
 ghost use Rattle.rs_server.specs.Counts.{failures_of, inner_of};
-ghost use Rattle.rs_places_turns.specs.Ended.{ending_of};
-ghost use Rattle.rs_places_turns.specs.Turns.{TakesBack, none_given};
+ghost use Rattle.rs_places_steps.specs.Ended.{ending_of};
+ghost use Rattle.rs_places_steps.specs.Turns.{TakesBack, none_given};
 
 use crate::script::Counts;
-use kit_test::{CONNACK, CONNECT, concat, is_concat};
-use rs_places_turns::{Connection, EndedConnection, FreeTurn, Turn};
+use kit_test::{CONNACK, CONNECT, DISCONNECT, concat, is_concat};
+use rs_places_steps::{Connection, EndedConnection, FreeTurn, Turn};
 use rs_server::{Clock, Moments, Served};
 use rs_version::{StoreName, Told};
 use std::alloc::{AllocError, Global};
@@ -15,12 +15,11 @@ use std::io::{Read, Write};
 use std::sync::Arc;
 use std::sync::atomic::Ordering;
 
-/// A retained publication of QoS 1, and its PUBACK.
-const PUBLISH: &[u8] = b"\x33\x07\x00\x01a\x01\x01\x00x";
+/// A retained publication of QoS 1.
+pub const PUBLISH: &[u8] = b"\x33\x07\x00\x01a\x01\x01\x00x";
 
-const PUBACK: &[u8] = b"\x40\x02\x01\x01";
-
-const DISCONNECT: &[u8] = b"\xE0\x00";
+/// Its PUBACK, if it is stored.
+pub const PUBACK: &[u8] = b"\x40\x02\x01\x01";
 
 /// Gives a client of this place connections that each publish a message, and looks at each that has ended: that it comes under the
 /// number of the one that was given last, with its replies, how it ended, without a failure, and with a token of a longer list than that of

@@ -4,10 +4,10 @@ use crate::rows::{Row, put_rows, scripts};
 use crate::script::{Counts, Input, Script, free_scripts};
 use kit_test::blank_store;
 use rs_intake::{Cause, blank_queue};
-use rs_message::{LineCount, MAX_LINES, PlaceCount};
+use rs_message::{Found, LineCount, MAX_LINES, PlaceCount};
 use rs_places::{StoreEnd, run_store};
 use rs_places_pool::{NoWatch, Runner, Watch};
-use rs_places_turns::{FreeTurn, Turn};
+use rs_places_steps::{FreeTurn, Turn};
 use std::alloc::Global;
 use std::sync::atomic::Ordering;
 use std::sync::{Arc, Wait};
@@ -50,7 +50,7 @@ pub fn outcome<T>(end: &StoreEnd<T>, counts: &Counts) -> Played {
     }
 }
 
-/// Runs a store of so many topics and seats, with a client for each turn, whom this runner serves.
+/// Runs a store of so many topics and seats, with a client for each turn, whom this runner serves. It is empty at first.
 pub fn run<
     T: Turn + Send + Drop + 'static,
     R: Threads + Wait + Copy + Send + Sync + 'static,
@@ -58,7 +58,29 @@ pub fn run<
 >(
     rt: R,
     alloc: Global,
+    store: (u32, u8),
+    turns: Vec<FreeTurn<T>>,
+    counts: &Counts,
+    runner: Runner<W>,
+) -> Result<Played, Fail>
+where
+    T::In: Send + 'static,
+    T::Out: Send + 'static,
+    T::Time: Send + 'static,
+{
+    run_given(rt, alloc, store, Vec::new(alloc), turns, counts, runner)
+}
+
+/// The same of a store that begins with these messages.
+pub fn run_given<
+    T: Turn + Send + Drop + 'static,
+    R: Threads + Wait + Copy + Send + Sync + 'static,
+    W: Watch<T::In> + Send + Sync + Drop + 'static,
+>(
+    rt: R,
+    alloc: Global,
     (topics, seats): (u32, u8),
+    given: Vec<Found>,
     turns: Vec<FreeTurn<T>>,
     counts: &Counts,
     runner: Runner<W>,
@@ -76,7 +98,7 @@ where
     let seats = PlaceCount::new(seats).ok_or("seats")?;
     let blank = blank_store(alloc, topics, seats)?;
     let queue = blank_queue(alloc, lines)?;
-    let end = run_store(rt, alloc, blank, queue, turns, runner)?;
+    let end = run_store(rt, alloc, blank, given, queue, turns, runner)?;
     Ok(outcome(&end, counts))
 }
 
@@ -104,9 +126,21 @@ pub fn play<R: Threads + Wait + Copy + Send + Sync + 'static>(
     places: u8,
     rows: &[Row<'_>],
 ) -> Result<Played, Fail> {
+    play_given(rt, alloc, (topics, places), Vec::new(alloc), rows)
+}
+
+/// The same of a store that begins with these messages.
+pub fn play_given<R: Threads + Wait + Copy + Send + Sync + 'static>(
+    rt: R,
+    alloc: Global,
+    store: (u32, u8),
+    given: Vec<Found>,
+    rows: &[Row<'_>],
+) -> Result<Played, Fail> {
     let counts = Arc::new(alloc, Counts::new())?;
-    let mut turns = scripts(alloc, &counts, places)?;
+    let mut turns = scripts(alloc, &counts, store.1)?;
     put_rows(alloc, turns.as_mut_slice(), rows)?;
     let runner = Runner::<NoWatch>::OneEach;
-    run_scripts(rt, alloc, (topics, places), turns, &counts, runner)
+    let turns = free_scripts(alloc, turns)?;
+    run_given(rt, alloc, store, given, turns, &counts, runner)
 }

@@ -1,11 +1,11 @@
 //! Turns that play connections from memory.
 
 ghost use Rattle.rs_server.specs.Counts.{failures_of, inner_of};
-ghost use Rattle.rs_places_turns.specs.Ended.{ending_of};
-ghost use Rattle.rs_places_turns.specs.Turns.{TakesBack, none_given};
+ghost use Rattle.rs_places_steps.specs.Ended.{ending_of};
+ghost use Rattle.rs_places_steps.specs.Turns.{TakesBack, none_given};
 
 use kit_test::{Behavior, CONNACK, FaultyStream, ServeResult, is_concat};
-use rs_places_turns::{Connection, EndedConnection, FreeTurn, Turn};
+use rs_places_steps::{Connection, EndedConnection, FreeTurn, Turn};
 use rs_server::{Clock, ServeFault, Served};
 use rs_version::{StoreName, Told};
 use std::alloc::{AllocError, Global};
@@ -40,10 +40,11 @@ pub struct Course {
     pub ends: ServeResult,
 }
 
-/// A connection: how it goes, what its client sends, and what it has to be sent.
+/// A connection: how it goes, at which moments, what its client sends, and what it has to be sent.
 #[derive(Drop)]
 struct ScriptConnection {
     course: Course,
+    moments: Vec<u64>,
     input: Vec<u8>,
     output: Vec<u8>,
 }
@@ -130,7 +131,7 @@ impl Output {
 pub struct ScriptClock {
     counts: Arc<Counts>,
     together: u64,
-    moments: &'static [u64],
+    moments: Vec<u64>,
     /// How many packets have come.
     packets: usize,
     /// Whether it waited for others in vain.
@@ -195,8 +196,21 @@ impl Script {
         input: Vec<u8>,
         output: Vec<u8>,
     ) -> Result<(), AllocError> {
+        let moments = course.moments.to_vec(self.alloc)?;
+        self.put_at(course, moments, input, output)
+    }
+
+    /// The same at these moments, and not at those of the course.
+    pub fn put_at(
+        &mut self,
+        course: Course,
+        moments: Vec<u64>,
+        input: Vec<u8>,
+        output: Vec<u8>,
+    ) -> Result<(), AllocError> {
         let connection = ScriptConnection {
             course,
+            moments,
             input,
             output,
         };
@@ -220,6 +234,7 @@ impl Turn for Script {
         let connection = self.waiting.pop_front()?;
         let ScriptConnection {
             course,
+            moments,
             input,
             output,
         } = connection;
@@ -246,7 +261,7 @@ impl Turn for Script {
             clock: ScriptClock {
                 counts,
                 together: course.together,
-                moments: course.moments,
+                moments,
                 packets: 0,
                 is_alone: false,
             },

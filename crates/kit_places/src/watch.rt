@@ -34,14 +34,14 @@ const LATE: u32 = 100;
 
 /// The clients of a lane that have something to do, and whether all are to stop.
 #[derive(Drop)]
-struct Told {
+struct LaneState {
     ready: VecDeque<usize>,
     is_stopped: bool,
 }
 
 #[derive(Drop)]
 struct Lane {
-    told: Mutex<Told>,
+    state: Mutex<LaneState>,
     came: Condvar,
 }
 
@@ -62,12 +62,12 @@ impl<H: Wait + Copy> MemoryWatch<H> {
     ) -> Result<MemoryWatch<H>, AllocError> {
         let mut all = Vec::with_capacity(alloc, lanes)?;
         for _ in 0..lanes {
-            let told = Told {
+            let state = LaneState {
                 ready: VecDeque::new(alloc),
                 is_stopped: false,
             };
             all.push(Lane {
-                told: Mutex::new(told),
+                state: Mutex::new(state),
                 came: Condvar::new(),
             })?;
         }
@@ -92,22 +92,22 @@ impl<H: Wait + Copy> MemoryWatch<H> {
         let Some(lane) = self.lanes.get(index) else {
             return false;
         };
-        let mut told = lane.told.lock(&self.rt);
-        let is_told = told.ready.push_back(client).is_ok();
+        let mut state = lane.state.lock(&self.rt);
+        let is_told = state.ready.push_back(client).is_ok();
         lane.came.notify_one();
         is_told
     }
 }
 
 /// Moves the first of the clients to the front of `ready`, or the last ones: how many.
-fn take(told: &mut Told, ready: &mut [usize], is_last_first: bool) -> usize
+fn take(state: &mut LaneState, ready: &mut [usize], is_last_first: bool) -> usize
     ensures { result ≤ length ready.new }
 {
     for index in 0..ready.len() {
         let next = if is_last_first {
-            told.ready.pop_back()
+            state.ready.pop_back()
         } else {
-            told.ready.pop_front()
+            state.ready.pop_front()
         };
         let Some(client) = next else {
             return index;
@@ -126,16 +126,16 @@ impl<H: Wait + Copy, I: Read> Watch<I> for MemoryWatch<H> {
                 yield_now();
             }
         }
-        let mut told = lane.told.lock(rt);
+        let mut state = lane.state.lock(rt);
         for _ in rt.forever() {
-            if told.is_stopped {
+            if state.is_stopped {
                 return None;
             }
-            let count = take(&mut *told, ready, is_late);
+            let count = take(&mut *state, ready, is_late);
             if count > 0 {
                 return Some(count);
             }
-            told = lane.came.wait(rt, told);
+            state = lane.came.wait(rt, state);
         }
         unreachable!()
     }
@@ -144,8 +144,8 @@ impl<H: Wait + Copy, I: Read> Watch<I> for MemoryWatch<H> {
         let Some(lane) = self.lanes.get(lane) else {
             return 0;
         };
-        let mut told = lane.told.lock(&self.rt);
-        take(&mut *told, ready, self.manner == Manner::Late)
+        let mut state = lane.state.lock(&self.rt);
+        take(&mut *state, ready, self.manner == Manner::Late)
     }
 
     fn watch(&self, lane: usize, client: usize, _input: &I) -> bool {
@@ -166,8 +166,8 @@ impl<H: Wait + Copy, I: Read> Watch<I> for MemoryWatch<H> {
 
     fn stop(&self) {
         for lane in self.lanes.iter() {
-            let mut told = lane.told.lock(&self.rt);
-            told.is_stopped = true;
+            let mut state = lane.state.lock(&self.rt);
+            state.is_stopped = true;
             lane.came.notify_all();
         }
     }

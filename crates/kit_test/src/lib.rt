@@ -26,7 +26,9 @@ pub use faults::{
 };
 pub use gate::{REFUSING_GATE, Refusing};
 pub use keeper::{Keeper, Outcome};
-pub use packets::{CONNACK, CONNECT, REPLAYED, SUBSCRIBED, concat, cut_off, is_concat, limits};
+pub use packets::{
+    CONNACK, CONNECT, DISCONNECT, REPLAYED, SUBSCRIBED, concat, cut_off, is_concat, limits,
+};
 pub use samples::{PAYLOAD, clear, found, message, origin, set, set_at};
 pub use shown::is_shown;
 pub use stores::{blank_store, read_all};

@@ -8,6 +8,9 @@ pub const CONNECT: &[u8] = b"\x10\x0E\x00\x04MQTT\x05\x02\x00\x3C\x00\x00\x01a";
 /// The CONNACK that accepts it (3.2).
 pub const CONNACK: &[u8] = b"\x20\x0D\x00\x00\x0A\x21\x00\x10\x27\x00\x04\x00\x00\x2A\x00";
 
+/// A DISCONNECT (3.14).
+pub const DISCONNECT: &[u8] = b"\xE0\x00";
+
 /// What a SUBSCRIBE of `a/#` is answered if no message is kept: SUBACK.
 pub const SUBSCRIBED: &[u8] = b"\x90\x04\x00\x01\x00\x00";
 

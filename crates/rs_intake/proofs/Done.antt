@@ -1,5 +1,5 @@
 -- What was done with the entries that the writer took, one after the other.
-use Rattle.std.proofs.Common.{◌≡◌, ℕ, zero, suc, ◌+◌, Bool, true, false, cond, All, ◌<◌, ◌≤◌, ◌||◌, List, [], ◌∷◌, ◌++◌, length, map, inl, inr, refl, sym, ap, subst, ◌∙◌, append_assoc, length-append, zero-add, Ok, Err, OnOk, IfOk, IfErr, arith}
+use Rattle.std.proofs.Common.{⊎_elim, drop, take, ◌≡◌, ℕ, zero, suc, ◌+◌, Bool, true, false, cond, All, ◌<◌, ◌≤◌, ◌||◌, List, [], ◌∷◌, ◌++◌, length, map, inl, inr, refl, sym, ap, subst, ◌∙◌, append_assoc, length-append, Ok, Err, OnOk, IfOk, IfErr, arith}
 use Rattle.std.specs.List.{AllByRecursion, filter}
 use Rattle.std.proofs.lemmas.List.{append-nil}
 use Rattle.std.proofs.lemmas.List.Elements.{filter-append}
@@ -7,15 +7,18 @@ use Rattle.rs_message.specs.Messages.{is_sweep}
 use Rattle.rs_message.specs.declared.entry.Entry.{Entry}
 use Rattle.rs_store.specs.Adding.{Adds}
 use Rattle.rs_store.specs.History.{SerialsRise, cleaned, extended}
-use Rattle.rs_version.specs.Writer.{Refuses, Written, kept_of, shows}
+use Rattle.rs_version.specs.First.{AreOwn}
+use Rattle.rs_version.specs.Writer.{IsNextOf, IsReadyFor, PassesOver, RefusesOf, Written, kept_of, shows}
+use Rattle.rs_version.specs.declared.fault.PutFault.{PutFault}
 use Rattle.rs_version.specs.declared.fault.PutFault.TheVariants.{Full, Held, NoMemory, Stale}
 use Rattle.rs_intake_queue.specs.Changes.{AreOf, AreOfOneJob, ArePlain, place_of_all}
-use Rattle.rs_intake_line.specs.Done.{Outcome, AreOutcomes, AreDone, AreRefusedBehind, AreReplied, IsOutcome, IsDone, IsPut, ReplyValue, has_held, is_held, is_refused, not_refused, refused_reply, refused_in, replies_to}
+use Rattle.rs_intake_line.specs.Done.{Outcome, AreOutcomes, AreDone, AreRefusedBehind, AreReplied, IsBehindHeld, IsOutcome, IsDone, IsPassedOver, IsPut, ReplyValue, has_held, is_held, is_refused, not_refused, refused_reply, refused_in, replies_to}
 use Rattle.rs_intake_queue.specs.Parts.{IsPart}
 use Rattle.rs_intake_line.specs.Sending.{AreToPut, ArePut}
 use Rattle.rs_intake_line.specs.Sweeps.{AreForEntries, IsKeptFrom, IsSweptAtMost, without_sweeps}
 use Rattle.rs_intake_queue.proofs.Parts.{all_append, part_front, part_rises}
-use Rattle.rs_intake.proofs.Sweeps.{entry_rises, adds_kept, held_kept, no_memory_kept, kept_from_entry, kept_from_refused, kept_from_start, released_kept, without_cleaned, without_more}
+use Rattle.rs_intake.proofs.First.{kept_from_first, own_plain, own_sweeps}
+use Rattle.rs_intake.proofs.Sweeps.{entry_rises, adds_kept, held_kept, no_memory_kept, all_rise, kept_from_entry, kept_from_refused, passed_kept, released_kept, sweeps_entry, sweeps_refused, without_cleaned, without_more}
 
 -- ---- a put
 
@@ -29,7 +32,7 @@ added_kept limit history e w (inr a) = shown_kept _ w a.1
 -- the outcome of a put says what was done
 pub put_done : (limit : ℕ) (w w' : Written) (e : Entry) (outcome : Outcome) → SerialsRise (extended (kept_of w) e)
     → OnOk outcome (Adds limit (kept_of w) e (λ list. w' ≡ shows list)) → IfOk outcome (λ r. r.entry ≡ e) → IfOk outcome (λ r. r.number ≡ length w'.published) → IfOk outcome (λ r. r.told ≡ w'.published)
-    → IfErr outcome (λ f. Refuses limit w e f w') → IsDone limit (kept_of w) e outcome (kept_of w')
+    → IfErr outcome (λ f. RefusesOf limit w e f w') → IsDone limit (kept_of w) e outcome (kept_of w')
 put_done limit w w' e (Ok r) rises adds entry number told refuses =
     let same = added_kept limit (kept_of w) e w' adds in
     (adds_kept limit (kept_of w) e w' adds, (entry, number ∙ ap length same, told ∙ same))
@@ -39,9 +42,27 @@ put_done limit w w' e (Err NoMemory) rises adds entry number told refuses = no_m
 put_done limit w w' e (Err Held) rises adds entry number told refuses = held_kept limit w e w' refuses
 
 pub put_is : (limit : ℕ) (w w' : Written) (e : Entry) (outcome : Outcome) → OnOk outcome (Adds limit (kept_of w) e (λ list. w' ≡ shows list)) → IfOk outcome (λ r. r.entry ≡ e)
-    → IfOk outcome (λ r. r.number ≡ length w'.published) → IfOk outcome (λ r. r.told ≡ w'.published) → IfErr outcome (λ f. Refuses limit w e f w') → IsPut limit w e outcome w'
+    → IfOk outcome (λ r. r.number ≡ length w'.published) → IfOk outcome (λ r. r.told ≡ w'.published) → IfErr outcome (λ f. RefusesOf limit w e f w') → IsPut limit w e outcome w'
 put_is limit w w' e (Ok r) adds entry number told refuses = (adds, (entry, number, told))
 put_is limit w w' e (Err f) adds entry number told refuses = refuses
+
+-- the outcome of an entry that is not put says what was done
+pub passed_done : (limit : ℕ) (w w' : Written) (e : Entry) (f : PutFault) → PassesOver limit w e f w' → IsDone limit (kept_of w) e (Err f) (kept_of w')
+passed_done limit w w' e Full over = absurd over
+passed_done limit w w' e Stale over = absurd over
+passed_done limit w w' e NoMemory over = inl (ap kept_of over)
+passed_done limit w w' e Held over = inl (over.0, passed_kept w w' e over.1)
+
+held_by_many : (most : ℕ) → (most ≤ 1 → Held ≡ NoMemory) → 2 ≤ most
+held_by_many zero one = let is = one (omega arith) in absurd (cc (is))
+held_by_many (suc zero) one = let is = one (omega arith) in absurd (cc (is))
+held_by_many (suc (suc n)) one = omega arith
+
+pub passed_behind : (limit most : ℕ) (w w' : Written) (e : Entry) (f : PutFault) → PassesOver limit w e f w' → (most ≤ 1 → f ≡ NoMemory) → IsBehindHeld most (Err f)
+passed_behind limit most w w' e Full over one = absurd over
+passed_behind limit most w w' e Stale over one = absurd over
+passed_behind limit most w w' e NoMemory over one = inl refl
+passed_behind limit most w w' e Held over one = inr (refl, held_by_many most one)
 
 -- ---- what the outcome says
 
@@ -157,11 +178,34 @@ all_kept_from limit before (entry ∷ entries) (outcome ∷ outcomes) kept kept'
       (let n = one.1 in let m = rest.1 in let r = refused_more outcome outcomes in omega (arith, n, m, r)),
     )
 
-pub kept_by_outcomes : (limit : ℕ) (entries kept : List Entry) (outcomes : List Outcome) → All (λ e. is_sweep e.operation ≡ false) entries → AreDone limit [] entries outcomes kept
-    → IsPart (without_sweeps kept) entries × (length (without_sweeps kept) + refused_in outcomes ≡ length entries) × AreForEntries limit entries kept
-kept_by_outcomes limit entries kept outcomes plain are =
-    let all = all_kept_from limit [] entries outcomes [] kept (kept_from_start limit [] [] refl refl) plain are in
-    (all.0.part, all.1 ∙ zero-add (length entries), all.0.sweeps)
+one_sweeps : (limit : ℕ) (entries kept : List Entry) (entry : Entry) (outcome : Outcome) (kept' : List Entry) → AreForEntries limit entries kept → is_sweep entry.operation ≡ false → IsDone limit kept entry outcome kept'
+    → AreForEntries limit (entries ++ entry ∷ []) kept'
+one_sweeps limit entries kept entry outcome kept' a plain is = go (is_refused outcome) refl
+  where
+    go : (b : Bool) → is_refused outcome ≡ b → AreForEntries limit (entries ++ entry ∷ []) kept'
+    go false stays = sweeps_entry limit entries kept kept' entry a plain (adds_if_done limit kept entry outcome kept' is stays)
+    go true goes = sweeps_refused limit entries kept kept' entry a (swept_if_done limit kept entry outcome kept' is goes)
+
+pub all_sweeps : (limit : ℕ) (before entries : List Entry) (outcomes : List Outcome) (kept kept' : List Entry) → AreForEntries limit before kept → All (λ e. is_sweep e.operation ≡ false) entries → AreDone limit kept entries outcomes kept'
+    → AreForEntries limit (before ++ entries) kept'
+all_sweeps limit before [] [] kept kept' a plain are =
+    let P : List Entry → Type 0 = λ l. AreForEntries limit l kept' in
+    let Q : List Entry → Type 0 = λ l. AreForEntries limit before l in
+    subst P (sym (append-nil before)) (subst Q (sym are) a)
+all_sweeps limit before [] (outcome ∷ outcomes) kept kept' a plain are = absurd are
+all_sweeps limit before (entry ∷ entries) [] kept kept' a plain are = absurd are
+all_sweeps limit before (entry ∷ entries) (outcome ∷ outcomes) kept kept' a plain are =
+    let one = one_sweeps limit before kept entry outcome are.0 a (plain 0 entry (omega arith)) are.1 in
+    let P : List Entry → Type 0 = λ l. AreForEntries limit l kept' in
+    subst P (append_assoc before (entry ∷ []) entries) (all_sweeps limit (before ++ entry ∷ []) entries outcomes are.0 kept' one (λ k d lt. plain (suc k) d (omega (arith, lt))) are.2)
+
+pub kept_by_outcomes : (limit : ℕ) (first entries kept : List Entry) (outcomes : List Outcome) → AreOwn first → SerialsRise first → All (λ e. is_sweep e.operation ≡ false) entries → AreDone limit first entries outcomes kept
+    → IsPart (without_sweeps kept) (first ++ entries) × (length (without_sweeps kept) + refused_in outcomes ≡ length entries + length first) × AreForEntries limit entries kept
+kept_by_outcomes limit first entries kept outcomes own rises plain are =
+    let all = all_kept_from limit first entries outcomes first kept (kept_from_first limit first own rises) plain are in
+    let sum = all.1 in
+    let n = ap length (own_plain first own) in
+    (all.0.part, omega (arith, sum, n), all_sweeps limit [] entries outcomes first kept (own_sweeps limit [] first own) plain are)
 
 -- ---- the changes of one job
 
@@ -199,15 +243,11 @@ has_held_append : (outcomes behind : List Outcome) → has_held (outcomes ++ beh
 has_held_append [] behind = refl
 has_held_append (a ∷ outcomes) behind = ap (λ b. is_held a || b) (has_held_append outcomes behind) ∙ or_assoc (is_held a) (has_held outcomes) (has_held behind)
 
--- the outcome is that memory was refused
-abbrev IsNoMemory : Outcome → Type 0
-IsNoMemory outcome = outcome ≡ Err NoMemory
-
-behind_append : (outcomes behind : List Outcome) → AreRefusedBehind outcomes → AreRefusedBehind behind → (has_held outcomes ≡ true → AllByRecursion IsNoMemory behind) → AreRefusedBehind (outcomes ++ behind)
-behind_append [] behind are more here = more
-behind_append (a ∷ outcomes) behind are more here = (
-  (λ is. all_append IsNoMemory outcomes behind (are.0 is) (here (or_left (is_held a) (has_held outcomes) is))),
-  behind_append outcomes behind are.1 more (λ is. here (or_right (is_held a) (has_held outcomes) is)),
+behind_append : (most : ℕ) (outcomes behind : List Outcome) → AreRefusedBehind most outcomes → AreRefusedBehind most behind → (has_held outcomes ≡ true → AllByRecursion (IsBehindHeld most) behind) → AreRefusedBehind most (outcomes ++ behind)
+behind_append most [] behind are more here = more
+behind_append most (a ∷ outcomes) behind are more here = (
+  (λ is. all_append (IsBehindHeld most) outcomes behind (are.0 is) (here (or_left (is_held a) (has_held outcomes) is))),
+  behind_append most outcomes behind are.1 more (λ is. here (or_right (is_held a) (has_held outcomes) is)),
 )
 
 refused_append : (outcomes behind : List Outcome) → refused_in (outcomes ++ behind) ≡ refused_in outcomes + refused_in behind
@@ -221,7 +261,7 @@ refused_one outcome = go (is_refused outcome)
     go false = omega arith
 
 -- nothing is put yet
-pub put_none : (limit : ℕ) (w : Written) (held : Bool) (rest : List Entry) (replies : List ReplyValue) → replies ≡ [] → ArePut limit w held rest replies 0 held rest w
+pub put_none : {most : ℕ} (limit : ℕ) (w : Written) (held : Bool) (rest : List Entry) (replies : List ReplyValue) → replies ≡ [] → ArePut limit most w held rest replies 0 held rest w
 put_none limit w held rest replies none = record {
   first = [];
   are = refl;
@@ -231,9 +271,9 @@ put_none limit w held rest replies none = record {
 }
 
 -- a change is put that is a job of its own
-pub replied_one : (limit : ℕ) (w : Written) (entry : Entry) (reply : ReplyValue) (count : ℕ) (w' : Written)
+pub replied_one : {most : ℕ} (limit : ℕ) (w : Written) (entry : Entry) (reply : ReplyValue) (count : ℕ) (w' : Written)
     → IsDone limit (kept_of w) entry reply.outcome (kept_of w') → reply.origin ≡ entry.origin → IsOutcome limit w entry reply.outcome w'
-    → count ≡ refused_in (reply.outcome ∷ []) → AreReplied limit w (entry ∷ []) (reply ∷ []) count w'
+    → count ≡ refused_in (reply.outcome ∷ []) → AreReplied limit most w (entry ∷ []) (reply ∷ []) count w'
 replied_one limit w entry reply count w' done origin outcome_is number =
     let outcome = reply.outcome in
     record {
@@ -245,9 +285,9 @@ replied_one limit w entry reply count w' done origin outcome_is number =
       refused_are = number;
     }
 
-pub put_one : (limit : ℕ) (w : Written) (held : Bool) (rest rest' : List Entry) (entry : Entry) (reply : ReplyValue) (count : ℕ) (held' : Bool) (w' : Written)
+pub put_one : {most : ℕ} (limit : ℕ) (w : Written) (held : Bool) (rest rest' : List Entry) (entry : Entry) (reply : ReplyValue) (count : ℕ) (held' : Bool) (w' : Written)
     → rest ≡ entry ∷ rest' → IsDone limit (kept_of w) entry reply.outcome (kept_of w') → reply.origin ≡ entry.origin → IsOutcome limit w entry reply.outcome w'
-    → (held ≡ true → reply.outcome ≡ Err NoMemory) → held' ≡ (held || is_held reply.outcome) → count ≡ refused_in (reply.outcome ∷ []) → ArePut limit w held rest (reply ∷ []) count held' rest' w'
+    → (held ≡ true → IsBehindHeld most reply.outcome) → held' ≡ (held || is_held reply.outcome) → count ≡ refused_in (reply.outcome ∷ []) → ArePut limit most w held rest (reply ∷ []) count held' rest' w'
 put_one limit w held rest rest' entry reply count held' w' first done origin outcome_is behind holds number =
     let outcome = reply.outcome in
     record {
@@ -266,9 +306,9 @@ put_one limit w held rest rest' entry reply count held' w' first done origin out
     }
 
 -- more of the job is put
-pub put_more : (limit : ℕ) (w : Written) (held : Bool) (all : List Entry) (replies : List ReplyValue) (refused : ℕ) (held1 : Bool) (rest1 : List Entry) (w1 : Written) (more : List ReplyValue) (count : ℕ) (held2 : Bool) (rest2 : List Entry) (w2 : Written) (replies' : List ReplyValue)
-    → ArePut limit w held all replies refused held1 rest1 w1 → ArePut limit w1 held1 rest1 more count held2 rest2 w2 → replies' ≡ replies ++ more → ArePut limit w held all replies' (refused + count) held2 rest2 w2
-put_more limit w held all replies refused held1 rest1 w1 more count held2 rest2 w2 replies' a b joined =
+pub put_more : {most : ℕ} (limit : ℕ) (w : Written) (held : Bool) (all : List Entry) (replies : List ReplyValue) (refused : ℕ) (held1 : Bool) (rest1 : List Entry) (w1 : Written) (more : List ReplyValue) (count : ℕ) (held2 : Bool) (rest2 : List Entry) (w2 : Written) (replies' : List ReplyValue)
+    → ArePut limit most w held all replies refused held1 rest1 w1 → ArePut limit most w1 held1 rest1 more count held2 rest2 w2 → replies' ≡ replies ++ more → ArePut limit most w held all replies' (refused + count) held2 rest2 w2
+put_more {most} limit w held all replies refused held1 rest1 w1 more count held2 rest2 w2 replies' a b joined =
     let xs = a.replied.outcomes in
     let ys = b.replied.outcomes in
     record {
@@ -278,11 +318,11 @@ put_more limit w held all replies refused held1 rest1 w1 more count held2 rest2 
         outcomes = xs ++ ys;
         done = done_append limit (kept_of w) a.first xs (kept_of w1) b.first ys (kept_of w2) a.replied.done b.replied.done;
         outcomes_are = outcomes_append limit w a.first xs w1 b.first ys w2 a.replied.outcomes_are b.replied.outcomes_are;
-        behind = behind_append xs ys a.replied.behind b.replied.behind (λ is. b.behind (a.held_is ∙ or_right held (has_held xs) is));
+        behind = behind_append most xs ys a.replied.behind b.replied.behind (λ is. b.behind (a.held_is ∙ or_right held (has_held xs) is));
         replies_are = joined ∙ (ap (λ l. l ++ more) a.replied.replies_are ∙ (ap (λ l. replies_to a.first xs ++ l) b.replied.replies_are ∙ sym (replies_append limit (kept_of w) a.first xs (kept_of w1) b.first ys a.replied.done)));
         refused_are = ap (λ n. n + count) a.replied.refused_are ∙ (ap (λ n. refused_in xs + n) b.replied.refused_are ∙ sym (refused_append xs ys));
       };
-      behind = (λ is. all_append IsNoMemory xs ys (a.behind is) (b.behind (a.held_is ∙ or_left held (has_held xs) is)));
+      behind = (λ is. all_append (IsBehindHeld most) xs ys (a.behind is) (b.behind (a.held_is ∙ or_left held (has_held xs) is)));
       held_is = b.held_is ∙ (ap (λ h. h || has_held ys) a.held_is ∙ (sym (or_assoc held (has_held xs) (has_held ys)) ∙ ap (λ h. held || h) (sym (has_held_append xs ys))));
     }
 
@@ -336,6 +376,28 @@ left_less limit kept rest left entry outcome kept' first is l =
       above = f.above.1;
     }
 
+-- all that is left is plain, and rises behind what is kept
+pub left_ready : (limit : ℕ) (kept rest : List Entry) → AreToPut limit kept rest → All (λ e. is_sweep e.operation ≡ false) rest × SerialsRise (kept ++ rest)
+left_ready limit kept rest l = (all_plain rest l.plain, all_rise limit l.entries kept rest l.kept_from l.above l.rise)
+
+-- ---- the entries that a writer was made ready for
+
+pub ready_next : (ready : List Entry) (count : ℕ) (rest left : List Entry) (entry : Entry) → 0 < count → rest ≡ entry ∷ left → IsReadyFor ready (take count rest) → IsNextOf ready entry
+ready_next ready zero rest left entry some first r = absurd (omega (arith, some))
+ready_next ready (suc n) rest left entry some first r = ⊎_elim (λ none. inl none) (λ are. inr (take n left, are ∙ ap (λ l. take (suc n) l) first)) r
+
+pub ready_left : (ready ready' : List Entry) (count count' : ℕ) (rest left : List Entry) (entry : Entry) → count ≡ count' + 1 → rest ≡ entry ∷ left → ready' ≡ drop 1 ready → IsReadyFor ready (take count rest) → IsReadyFor ready' (take count' left)
+ready_left ready ready' count count' rest left entry less first dropped r = ⊎_elim
+    (λ (none : ready ≡ []). inl (dropped ∙ ap (λ l. drop 1 l) none))
+    (λ (are : ready ≡ take count rest).
+    let n : count ≡ suc count' = omega (arith, less) in
+    let all : ready ≡ entry ∷ take count' left = are ∙ (ap (λ k. take k rest) n ∙ ap (λ l. take (suc count') l) first) in
+    inr (dropped ∙ ap (λ l. drop 1 l) all))
+    r
+
+pub ready_none : (ready : List Entry) (count : ℕ) (rest : List Entry) → count ≡ 0 → IsReadyFor ready (take count rest) → ready ≡ []
+ready_none ready count rest none r = ⊎_elim (λ is. is) (λ are. are ∙ ap (λ k. take k rest) none) r
+
 -- the outcomes where nothing is put
 abbrev all_refused : List Entry → List Outcome
 all_refused [] = []
@@ -347,11 +409,11 @@ refused_done limit kept (entry ∷ entries) = (kept, inl refl, refused_done limi
 
 refused_outcomes : (limit : ℕ) (w : Written) (entries : List Entry) → AreOutcomes limit w entries (all_refused entries) w
 refused_outcomes limit w [] = refl
-refused_outcomes limit w (entry ∷ entries) = (w, inr (refl, refl), refused_outcomes limit w entries)
+refused_outcomes limit w (entry ∷ entries) = (w, inr refl, refused_outcomes limit w entries)
 
-refused_behind : (entries : List Entry) → AreRefusedBehind (all_refused entries)
-refused_behind [] = tt
-refused_behind (entry ∷ entries) = ((λ is. absurd (cc (is))), refused_behind entries)
+refused_behind : (most : ℕ) (entries : List Entry) → AreRefusedBehind most (all_refused entries)
+refused_behind most [] = tt
+refused_behind most (entry ∷ entries) = ((λ is. absurd (cc (is))), refused_behind most entries)
 
 refused_replies : (entries : List Entry) → map refused_reply entries ≡ replies_to entries (all_refused entries)
 refused_replies [] = refl
@@ -361,33 +423,33 @@ refused_count : (entries : List Entry) → length entries ≡ refused_in (all_re
 refused_count [] = refl
 refused_count (entry ∷ entries) = ap suc (refused_count entries)
 
-refused_all : (entries : List Entry) → AllByRecursion IsNoMemory (all_refused entries)
-refused_all [] = tt
-refused_all (entry ∷ entries) = (refl, refused_all entries)
+refused_all : (most : ℕ) (entries : List Entry) → AllByRecursion (IsBehindHeld most) (all_refused entries)
+refused_all most [] = tt
+refused_all most (entry ∷ entries) = (inl refl, refused_all most entries)
 
 refused_unheld : (entries : List Entry) → has_held (all_refused entries) ≡ false
 refused_unheld [] = refl
 refused_unheld (entry ∷ entries) = refused_unheld entries
 
-pub put_refusing : (limit : ℕ) (w : Written) (held : Bool) (rest : List Entry) (replies : List ReplyValue) (refused : ℕ) (left : List Entry) → replies ≡ map refused_reply rest → refused ≡ length rest → left ≡ [] → ArePut limit w held rest replies refused held left w
-put_refusing limit w held rest replies refused left are number none = record {
+pub put_refusing : {most : ℕ} (limit : ℕ) (w : Written) (held : Bool) (rest : List Entry) (replies : List ReplyValue) (refused : ℕ) (left : List Entry) → replies ≡ map refused_reply rest → refused ≡ length rest → left ≡ [] → ArePut limit most w held rest replies refused held left w
+put_refusing {most} limit w held rest replies refused left are number none = record {
   first = rest;
   are = sym (ap (λ l. rest ++ l) none ∙ append-nil rest);
   replied = record {
     outcomes = all_refused rest;
     done = refused_done limit (kept_of w) rest;
     outcomes_are = refused_outcomes limit w rest;
-    behind = refused_behind rest;
+    behind = refused_behind most rest;
     replies_are = are ∙ refused_replies rest;
     refused_are = number ∙ refused_count rest;
   };
-  behind = (λ is. refused_all rest);
+  behind = (λ is. refused_all most rest);
   held_is = sym (ap (λ h. held || h) (refused_unheld rest) ∙ or_false held);
 }
 
 -- all of the job is put
-pub all_put : (limit : ℕ) (w : Written) (changes : List Entry) (replies : List ReplyValue) (refused : ℕ) (held : Bool) (rest : List Entry) (w' : Written) → rest ≡ [] → ArePut limit w false changes replies refused held rest w' → AreReplied limit w changes replies refused w'
-all_put limit w changes replies refused held rest w' none p =
+pub all_put : {most : ℕ} (limit : ℕ) (w : Written) (changes : List Entry) (replies : List ReplyValue) (refused : ℕ) (held : Bool) (rest : List Entry) (w' : Written) → rest ≡ [] → ArePut limit most w false changes replies refused held rest w' → AreReplied limit most w changes replies refused w'
+all_put {most} limit w changes replies refused held rest w' none p =
     let same : changes ≡ p.first = p.are ∙ (ap (λ l. p.first ++ l) none ∙ append-nil p.first) in
-    let P : List Entry → Type 0 = λ l. AreReplied limit w l replies refused w' in
+    let P : List Entry → Type 0 = λ l. AreReplied limit most w l replies refused w' in
     subst P (sym same) p.replied

@@ -1,3 +1,4 @@
+pub mod First
 pub mod Sweeps
 pub mod Telling
 pub mod Done

@@ -9,7 +9,7 @@ use crate::fault::SettleFault;
 use crate::taken::Taken;
 use crate::writer::Ended;
 use rs_intake_line::{LineEnd, LineName};
-use std::sync::Wait;
+use rs_version::StoreWriter;
 
 fn count_at<N: LineName>(ends: &Vec<LineEnd<N>>, place: u16) -> usize
     ensures { result ≡ ends_at place ends.now.items }
@@ -95,9 +95,9 @@ fn join_all<N: LineName>(taken: &mut Taken<N>, ends: Vec<LineEnd<N>>)
 /// # Errors
 ///
 /// [`Unsettled`](SettleFault::Unsettled) if a place has no end or two, or not as many entries were taken as sent.
-pub fn settle<N: LineName, R: Wait + Drop>(
+pub fn settle<N: LineName, S: StoreWriter<N>>(
     ends: Vec<LineEnd<N>>,
-    ended: &mut Ended<N, R>,
+    ended: &mut Ended<N, S>,
 ) -> Result<u64, SettleFault>
     ensures taken { IfOk result (λ n. n ≡ ended.old.taken) }
     ensures sum { IfOk result (λ n. n ≡ sent_in_all ends.items) }

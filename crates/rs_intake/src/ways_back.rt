@@ -1,13 +1,12 @@
 //! The ways back to all lines: the writer puts a job, and sends the replies to its line.
 
-ghost use Rattle.std.specs.Prelude.{◌≡◌, ◌+◌, ◌-◌, ◌<◌, ◌≤◌, ◌||◌, ◌∷◌, ◌++◌, [], List, true, false, length, vec_capacity};
+ghost use Rattle.std.specs.Prelude.{◌≡◌, ◌+◌, ◌-◌, ◌<◌, ◌≤◌, ◌||◌, ◌∷◌, ◌++◌, [], List, true, false, drop, length, take, vec_capacity};
 ghost use Rattle.rs_message.specs.Messages.{is_sweep};
 ghost use Rattle.rs_message.specs.declared.entry.Entry.{Entry};
 ghost use Rattle.rs_store.specs.History.{SerialsRise, extended};
-ghost use Rattle.rs_version.specs.Writer.{kept_of};
-ghost use Rattle.rs_version.specs.declared.fault.PutFault.TheVariants.{NoMemory};
+ghost use Rattle.rs_version.specs.Writer.{IsNextOf, IsReadyFor, kept_of};
 ghost use Rattle.rs_intake_queue.specs.Changes.{place_of_all};
-ghost use Rattle.rs_intake_line.specs.Done.{AreReplied, IsDone, IsOutcome, IsPut, ReplyValue, is_held};
+ghost use Rattle.rs_intake_line.specs.Done.{AreReplied, IsBehindHeld, IsDone, IsOutcome, IsPut, ReplyValue, is_held};
 ghost use Rattle.rs_intake_line.specs.Sending.{AreSentNext, AreSentTo, AreToPut, ArePut};
 ghost use Rattle.rs_intake_line.specs.Sweeps.{IsKeptFrom};
 ghost use Rattle.rs_intake_queue.specs.declared.job.TheConstants.{MAX_CHANGES};
@@ -15,51 +14,49 @@ ghost use Rattle.rs_intake_queue.specs.declared.job.TheConstants.{MAX_CHANGES};
 use rs_intake_line::{
     FullnessWriter, LineName, MessageSize, ReplySender, WayEnd, WriterReplies, WriterReply,
 };
-use rs_intake_queue::{Changes, Entries};
+use rs_intake_queue::{Changes, Entries, MAX_CHANGES};
 use rs_message::Entry;
-use rs_version::{PutFault, VersionWriter};
+use rs_version::StoreWriter;
 use std::alloc::Global;
 use std::collections::VecDeque;
 use std::mem;
 use std::sync::Wait;
 
 /// Puts a change, and makes the reply to its line. A Sweep may have been appended before the change, or without it.
-fn reply_to<N: LineName, R: Wait + Drop>(
-    writer: &mut VersionWriter<N, R>,
-    entry: Entry,
-) -> WriterReply<N>
+fn reply_to<N: LineName, S: StoreWriter<N>>(writer: &mut S, entry: Entry) -> WriterReply<N>
     requires no_sweep { is_sweep entry.operation ≡ false }
-    requires rises { SerialsRise (extended (kept_of writer.old) entry) }
-    ensures done { IsDone N.limit (kept_of writer.old) entry result.outcome (kept_of writer.new) }
+    requires rises { SerialsRise (extended (kept_of (S.written writer.old)) entry) }
+    requires next { IsNextOf (S.ready writer.old) entry }
+    ensures ready { S.ready writer.new ≡ drop 1 (S.ready writer.old) }
+    ensures done { IsDone N.limit (kept_of (S.written writer.old)) entry result.outcome (kept_of (S.written writer.new)) }
     ensures origin { result.origin ≡ entry.origin }
-    ensures put { IsPut N.limit writer.old entry result.outcome writer.new }
+    ensures put { IsPut N.limit (S.written writer.old) entry result.outcome (S.written writer.new) }
 {
     let origin = entry.origin;
     let outcome = writer.put(entry);
     WriterReply { origin, outcome }
 }
 
-/// Puts the next change of a job, unless one before it is held: then nothing is done, and the reply is that memory was refused. `has_held`
-/// is whether one is held.
-fn reply_to_next<N: LineName, R: Wait + Drop>(
-    writer: &mut VersionWriter<N, R>,
+/// Puts the next change of a job, unless one before it is held: then it is refused, or held, too. `has_held` is whether one is held.
+fn reply_to_next<N: LineName, S: StoreWriter<N>>(
+    writer: &mut S,
     entry: Entry,
     has_held: &mut bool,
 ) -> WriterReply<N>
     requires no_sweep { is_sweep entry.operation ≡ false }
-    requires rises { SerialsRise (extended (kept_of writer.old) entry) }
-    ensures done { IsDone N.limit (kept_of writer.old) entry result.outcome (kept_of writer.new) }
+    requires rises { SerialsRise (extended (kept_of (S.written writer.old)) entry) }
+    requires next { IsNextOf (S.ready writer.old) entry }
+    ensures ready { S.ready writer.new ≡ drop 1 (S.ready writer.old) }
+    ensures done { IsDone N.limit (kept_of (S.written writer.old)) entry result.outcome (kept_of (S.written writer.new)) }
     ensures origin { result.origin ≡ entry.origin }
-    ensures outcome { IsOutcome N.limit writer.old entry result.outcome writer.new }
-    ensures behind { has_held.old ≡ true → result.outcome ≡ Err NoMemory }
+    ensures outcome { IsOutcome N.limit (S.written writer.old) entry result.outcome (S.written writer.new) }
+    ensures behind { has_held.old ≡ true → IsBehindHeld S.most_held result.outcome }
     ensures held { has_held.new ≡ (has_held.old || is_held result.outcome) }
 {
     if *has_held {
-        return WriterReply {
-            origin: entry.origin,
-            // Refused: the memory for the change that is held before this one.
-            outcome: Err(PutFault::NoMemory),
-        };
+        let origin = entry.origin;
+        let outcome = Err(writer.pass_over(entry));
+        return WriterReply { origin, outcome };
     }
     let reply = reply_to(writer, entry);
     *has_held = reply.is_held();
@@ -69,8 +66,8 @@ fn reply_to_next<N: LineName, R: Wait + Drop>(
 /// Puts the first `count` of the changes that are left of a job, one after the other, and makes a reply to each. `has_held` is whether a
 /// change of the job is held, before and after. `reserved` has the capacity for the replies. The result is also how many changes are
 /// refused.
-fn reply_to_first<N: LineName, R: Wait + Drop>(
-    writer: &mut VersionWriter<N, R>,
+fn reply_to_first<N: LineName, S: StoreWriter<N>>(
+    writer: &mut S,
     rest: &mut VecDeque<Entry>,
     has_held: &mut bool,
     reserved: Vec<WriterReply<N>>,
@@ -78,9 +75,12 @@ fn reply_to_first<N: LineName, R: Wait + Drop>(
 ) -> (Vec<WriterReply<N>>, u64)
     requires reserved { (reserved.items ≡ []) × (count ≤ vec_capacity reserved) }
     requires there { count ≤ length rest.old.items }
-    requires left { AreToPut N.limit (kept_of writer.old) rest.old.items }
-    ensures put { ArePut N.limit writer.old has_held.old rest.old.items result.0.items result.1 has_held.new rest.new.items writer.new }
-    ensures left { AreToPut N.limit (kept_of writer.new) rest.new.items }
+    requires left { AreToPut N.limit (kept_of (S.written writer.old)) rest.old.items }
+    requires ready { IsReadyFor (S.ready writer.old) (take count rest.old.items) }
+    ensures ready { S.ready writer.new ≡ [] }
+    ensures put { ArePut N.limit S.most_held (S.written writer.old) has_held.old rest.old.items result.0.items result.1 has_held.new rest.new.items
+        (S.written writer.new) }
+    ensures left { AreToPut N.limit (kept_of (S.written writer.new)) rest.new.items }
     ensures count { (length rest.new.items + count ≡ length rest.old.items) × (length result.0.items ≡ count) }
     ensures refused { result.1 + length rest.new.items ≤ length rest.old.items }
 {
@@ -101,19 +101,22 @@ fn reply_to_first<N: LineName, R: Wait + Drop>(
     (replies, refused)
 }
 
-/// Puts the next `at_once` changes of a job, or all that are left. If there is no memory for the replies, nothing is put, and each change
-/// that is left has that as its reply.
-fn next_replies<N: LineName, R: Wait + Drop>(
+/// Makes the next `at_once` changes of a job ready, or all that are left, and puts them. If there is no memory for the replies, nothing is
+/// put, and each change that is left has that as its reply.
+fn next_replies<N: LineName, S: StoreWriter<N>>(
     alloc: Global,
-    writer: &mut VersionWriter<N, R>,
+    writer: &mut S,
     rest: &mut VecDeque<Entry>,
     has_held: &mut bool,
     at_once: MessageSize,
 ) -> (WriterReplies<N>, u64)
     requires some { 0 < length rest.old.items }
-    requires left { AreToPut N.limit (kept_of writer.old) rest.old.items }
-    ensures put { ArePut N.limit writer.old has_held.old rest.old.items result.0 result.1 has_held.new rest.new.items writer.new }
-    ensures left { AreToPut N.limit (kept_of writer.new) rest.new.items }
+    requires left { AreToPut N.limit (kept_of (S.written writer.old)) rest.old.items }
+    requires ready { S.ready writer.old ≡ [] }
+    ensures ready { S.ready writer.new ≡ [] }
+    ensures put { ArePut N.limit S.most_held (S.written writer.old) has_held.old rest.old.items result.0 result.1 has_held.new rest.new.items
+        (S.written writer.new) }
+    ensures left { AreToPut N.limit (kept_of (S.written writer.new)) rest.new.items }
     ensures many { length rest.new.items ≤ length rest.old.items - at_once }
     ensures some { 0 < length result.0 }
     ensures refused { result.1 + length rest.new.items ≤ length rest.old.items }
@@ -124,24 +127,27 @@ fn next_replies<N: LineName, R: Wait + Drop>(
         let refused = changes.len() as u64;
         return (WriterReplies::of_refused(alloc, changes), refused);
     };
+    writer.make_ready(rest, count);
     let (replies, refused) = reply_to_first(writer, rest, has_held, reserved, count);
     (WriterReplies::new(alloc, replies), refused)
 }
 
 /// Puts the changes of a job, and sends `at_once` replies in each message. If memory for the replies of one is refused, it refuses all
 /// changes that are left, and is the last. The result is how many changes are refused.
-fn put_and_send<N: LineName, R: Wait + Drop, W: Wait>(
+fn put_and_send<N: LineName, S: StoreWriter<N>, W: Wait>(
     rt: &W,
     alloc: Global,
     to: &mut ReplySender<N>,
     fullness: &mut FullnessWriter,
-    writer: &mut VersionWriter<N, R>,
+    writer: &mut S,
     changes: VecDeque<Entry>,
     at_once: MessageSize,
 ) -> u64
     requires few { length changes.items ≤ MAX_CHANGES }
-    requires left { AreToPut N.limit (kept_of writer.old) changes.items }
-    ensures { (replies : List ReplyValue) × AreReplied N.limit writer.old changes.items replies result writer.new
+    requires left { AreToPut N.limit (kept_of (S.written writer.old)) changes.items }
+    requires ready { S.ready writer.old ≡ [] }
+    ensures ready { S.ready writer.new ≡ [] }
+    ensures replied { (replies : List ReplyValue) × AreReplied N.limit S.most_held (S.written writer.old) changes.items replies result (S.written writer.new)
         × AreSentNext to.old replies to.new }
 {
     let mut rest = changes;
@@ -158,15 +164,17 @@ fn put_and_send<N: LineName, R: Wait + Drop, W: Wait>(
 
 /// Puts a change that is a job of its own, and sends the reply, for which it takes no memory. The result is 1 if the change is refused,
 /// else 0.
-fn put_alone<N: LineName, R: Wait + Drop, W: Wait>(
+fn put_alone<N: LineName, S: StoreWriter<N>, W: Wait>(
     rt: &W,
     to: &mut ReplySender<N>,
     fullness: &mut FullnessWriter,
-    writer: &mut VersionWriter<N, R>,
+    writer: &mut S,
     entry: Entry,
 ) -> u64
-    requires left { AreToPut N.limit (kept_of writer.old) (entry ∷ []) }
-    ensures { (replies : List ReplyValue) × AreReplied N.limit writer.old (entry ∷ []) replies result writer.new
+    requires left { AreToPut N.limit (kept_of (S.written writer.old)) (entry ∷ []) }
+    requires ready { S.ready writer.old ≡ [] }
+    ensures ready { S.ready writer.new ≡ [] }
+    ensures replied { (replies : List ReplyValue) × AreReplied N.limit S.most_held (S.written writer.old) (entry ∷ []) replies result (S.written writer.new)
         × AreSentNext to.old replies to.new }
 {
     // For the proof: this call says that the serial is not 0.
@@ -212,16 +220,18 @@ impl<N: LineName> WaysBack<N> {
     /// Puts the changes of a job, one after the other, and sends the replies to their line, `at_once` in each message, or more if its way back
     /// has space for fewer messages, and nothing to any other. If a send of replies fails, as it does if the line is gone, no more are sent
     /// to this line. The result is how many changes are refused.
-    pub(crate) fn put_job<R: Wait + Drop, W: Wait>(
+    pub(crate) fn put_job<S: StoreWriter<N>, W: Wait>(
         &mut self,
         rt: &W,
-        writer: &mut VersionWriter<N, R>,
+        writer: &mut S,
         changes: Changes,
         at_once: usize,
     ) -> u64
         requires place { place_of_all changes ≤ length self.old.senders.items }
-        requires rises { (before : List Entry) × IsKeptFrom N.limit before (kept_of writer.old) × SerialsRise (before ++ changes) }
-        ensures { (replies : List ReplyValue) × AreReplied N.limit writer.old changes replies result writer.new
+        requires rises { (before : List Entry) × IsKeptFrom N.limit before (kept_of (S.written writer.old)) × SerialsRise (before ++ changes) }
+        requires ready { S.ready writer.old ≡ [] }
+        ensures ready { S.ready writer.new ≡ [] }
+        ensures replied { (replies : List ReplyValue) × AreReplied N.limit S.most_held (S.written writer.old) changes replies result (S.written writer.new)
             × AreSentTo (place_of_all changes) self.old.senders.items replies self.new.senders.items }
     {
         let index = changes.place() as usize - 1;
@@ -233,6 +243,12 @@ impl<N: LineName> WaysBack<N> {
             Entries::Many(entries) => entries,
         };
         let entries = VecDeque::from_vec(entries);
+        // What is made ready all at once is replied to in one message, for which memory is there before.
+        let at_once = if writer.makes_ready_at_once() {
+            MAX_CHANGES
+        } else {
+            at_once
+        };
         let at_once = to.message_size(at_once);
         put_and_send(
             rt,

@@ -1,8 +1,9 @@
 //! A writer at its queue, and the steps that it makes.
 
-ghost use Rattle.std.specs.Prelude.{◌≡◌, ◌+◌, ◌<◌, ◌≤◌, ◌^◌, ◌⊎◌, [], length, replicate, IfNone, IfSome, MatchBool, Some};
-ghost use Rattle.std.specs.Option.{option_map};
+ghost use Rattle.std.specs.Prelude.{◌≡◌, ◌+◌, ◌<◌, ◌≤◌, ◌^◌, ◌⊎◌, [], length, map, replicate, take, IfNone, IfSome, MatchBool, Some};
 ghost use Rattle.crossbeam_channel.specs.Ends.{receives_on};
+ghost use Rattle.rs_version.specs.Copies.{listed};
+ghost use Rattle.rs_version.specs.First.{AreOwn};
 ghost use Rattle.rs_version.specs.Writer.{kept_of};
 ghost use Rattle.rs_intake_line.specs.Done.{untold};
 ghost use Rattle.rs_intake.specs.Causes.{HaveEnded, IsCause};
@@ -19,8 +20,9 @@ use rs_intake_line::{FEW_REPLIES, LineName, WayEnd};
 use rs_intake_queue::{Job, JobReceiver, MAX_CHANGES, Patience, Polls};
 use rs_message::Origin;
 use rs_metrics::WriterMeter;
-use rs_version::VersionWriter;
+use rs_version::StoreWriter;
 use std::marker::Model;
+use std::snapshot::Snapshot;
 use std::sync::Wait;
 
 /// The writer's end of the queue, from which nothing was taken.
@@ -60,14 +62,14 @@ impl<N: LineName> Queue<N> {
 
 /// What [`run_writer`](crate::run_writer) leaves.
 #[derive(Drop)]
-pub struct Ended<N: LineName, R: Wait + Drop> {
+pub struct Ended<N: LineName, S: StoreWriter<N>> {
     /// The writer.
-    pub writer: VersionWriter<N, R>,
+    pub writer: S,
     /// How many entries were taken, with the jobs that asked for them.
     pub taken: u64,
     /// How many of them were not appended.
     pub refused: u64,
-    /// The origin of the held entry, which is appended and not published.
+    /// The origin of the first entry that is held: appended, and not published.
     pub held: Option<Origin>,
     /// What was taken.
     pub received: Taken<N>,
@@ -78,20 +80,23 @@ pub struct Ended<N: LineName, R: Wait + Drop> {
     pub ghost counted: { taken ≡ length received.entries },
 }
 
-impl<N: LineName, R: Wait + Drop> Ended<N, R> {
+impl<N: LineName, S: StoreWriter<N>> Ended<N, S> {
     fn new(
-        writer: VersionWriter<N, R>,
+        writer: S,
         taken: u64,
         refused: u64,
         received: Taken<N>,
         cause: Cause,
         ways: Vec<WayEnd<N>>,
-    ) -> Ended<N, R>
+    ) -> Ended<N, S>
         requires { taken ≡ length received.entries }
         ensures values { (result.writer ≡ writer) × (result.taken ≡ taken) × (result.refused ≡ refused) }
-        ensures held { result.held ≡ option_map (λ e. e.origin) writer.held }
+        ensures held { listed result.held ≡ take 1 (map (λ e. e.origin) (S.written writer).held) }
+        ensures few { length (S.written writer).held ≤ S.most_held }
         ensures received { (result.received ≡ received) × (result.cause ≡ cause) × (result.ways ≡ ways) }
     {
+        // For the proof: this call says how many entries are held at most.
+        let _count = writer.held_count();
         let held = writer.held();
         Ended {
             writer,
@@ -125,11 +130,7 @@ fn replies_at_once(patience: &Patience) -> usize
 }
 
 /// Shows what the writer has published, and how many changes it took.
-fn show<N: LineName, R: Wait + Drop>(
-    meter: &WriterMeter,
-    writer: &VersionWriter<N, R>,
-    taken: u64,
-) {
+fn show<N: LineName, S: StoreWriter<N>>(meter: &WriterMeter, writer: &S, taken: u64) {
     if meter.is_needed() {
         meter.set_content(
             writer.tell().version(),
@@ -140,14 +141,16 @@ fn show<N: LineName, R: Wait + Drop>(
     }
 }
 
-/// A writer at its queue. It takes one job at a time. Contracts see what it published and holds, what it took, what it sent by the ways back,
-/// and how many entries it took and refused.
+/// A writer at its queue. It takes one job at a time. Contracts see what it kept when it began, what it published and holds, what it took,
+/// what it sent by the ways back, and how many entries it took and refused.
 ///
-/// At every moment what it keeps came to be by the outcomes of just what it took, and these outcomes were sent to the lines, unless a send
-/// failed (`IsUnderWay`).
+/// At every moment what it keeps came of what it kept when it began by the outcomes of just what it took, and these outcomes were sent to
+/// the lines, unless a send failed (`IsUnderWay`).
 #[derive(Drop)]
-pub struct JobWriter<N: LineName, R: Wait + Drop> {
-    writer: VersionWriter<N, R>,
+pub struct JobWriter<N: LineName, S: StoreWriter<N>> {
+    // The writer when it began.
+    began: Snapshot<S>,
+    writer: S,
     receiver: JobReceiver,
     received: Taken<N>,
     ways: WaysBack<N>,
@@ -159,26 +162,29 @@ pub struct JobWriter<N: LineName, R: Wait + Drop> {
     left: u16,
 }
 
-impl<N: LineName, R: Wait + Drop> Model for JobWriter<N, R> {
-    ghost use Rattle.std.specs.Prelude.{◌≡◌, ◌+◌, length};
+impl<N: LineName, S: StoreWriter<N>> Model for JobWriter<N, S> {
+    ghost use Rattle.std.specs.Prelude.{◌≡◌, ◌+◌, [], length};
     ghost use Rattle.crossbeam_channel.specs.Ends.{receives_on};
+    ghost use Rattle.rs_version.specs.Writer.{kept_of};
     ghost use Rattle.rs_intake_line.specs.Names.{IsQueue};
     ghost use Rattle.rs_intake.specs.Writers.{IsUnderWay, WriterValue};
 
     ghost Value = { WriterValue };
 
-    ghost view = { λ w. record { writer = w.writer; received = w.received; ways = w.ways.senders.items; taken = w.taken; refused = w.refused } };
+    ghost view = { λ w. record { first = kept_of (S.written w.began.value); writer = S.written w.writer; received = w.received; ways = w.ways.senders.items; taken = w.taken; refused = w.refused } };
 
     ghost invariant = { λ w. IsQueue N.queue (receives_on w.receiver)
-        × IsUnderWay N.limit N.places record { writer = w.writer; received = w.received; ways = w.ways.senders.items; taken = w.taken; refused = w.refused }
-        × (w.left + length w.received.ends ≡ N.places) };
+        × IsUnderWay N.limit N.places record { first = kept_of (S.written w.began.value); writer = S.written w.writer; received = w.received; ways = w.ways.senders.items; taken = w.taken; refused = w.refused }
+        × (w.left + length w.received.ends ≡ N.places) × (S.ready w.writer ≡ []) };
 }
 
-impl<N: LineName, R: Wait + Drop> JobWriter<N, R> {
-    /// A writer that kept nothing, at a queue from which nothing was taken.
-    pub fn new(queue: Queue<N>, writer: VersionWriter<N, R>) -> JobWriter<N, R>
-        requires empty { kept_of writer ≡ [] }
-        ensures writer { result.writer ≡ writer }
+impl<N: LineName, S: StoreWriter<N>> JobWriter<N, S> {
+    /// A writer that kept nothing yet but what its store began with, at a queue from which nothing was taken.
+    pub fn new(queue: Queue<N>, mut writer: S) -> JobWriter<N, S>
+        requires own { AreOwn (kept_of (S.written writer)) }
+        requires ready { S.ready writer ≡ [] }
+        ensures first { result.first ≡ kept_of (S.written writer) }
+        ensures writer { result.writer ≡ S.written writer }
         ensures received { (result.received.entries ≡ []) × (result.received.ends ≡ []) }
         ensures ways { result.ways ≡ replicate N.places untold }
         ensures counts { (result.taken ≡ 0) × (result.refused ≡ 0) }
@@ -193,7 +199,11 @@ impl<N: LineName, R: Wait + Drop> JobWriter<N, R> {
         } = queue;
         let left = received.places();
         meter.set_taking(true);
+        show(&meter, &writer, 0);
+        // For the proof: this call says that the kept list is legal.
+        writer.note_covered(&writer.tell());
         JobWriter {
+            began: Snapshot::of(&writer),
             writer,
             receiver,
             received,
@@ -215,12 +225,12 @@ impl<N: LineName, R: Wait + Drop> JobWriter<N, R> {
     }
 
     /// Waits for the oldest job, and takes it. It puts its changes, one after the other, and sends the job's line a reply to each. Behind a
-    /// change that is held the others of the job are refused.
+    /// change that is held the others of the job are refused, or held, too.
     ///
     /// The result is why no step can follow, if none can: each place has ended, with this job; or no job was taken, since at least `most`
     /// entries were taken before, or so many that one more job could have more than can be counted, or since the receive failed.
     pub fn step<W: Wait>(&mut self, rt: &W, most: u64) -> Option<Cause>
-        ensures step { IsStepBefore N.limit N.places result self.old self.new }
+        ensures step { IsStepBefore N.limit S.most_held N.places result self.old self.new }
         ensures cause { IfSome result (λ cause. IsCause N.places most self.new.received cause) }
         ensures more { IfNone result (HaveEnded N.places self.new.received.ends → HaveEnded N.places self.old.received.ends) }
         ensures most { most ≤ self.old.taken → result ≡ Some MostTaken }
@@ -251,14 +261,16 @@ impl<N: LineName, R: Wait + Drop> JobWriter<N, R> {
     }
 
     /// Ends the ways back. Before that it tries once more to publish a held entry, of which no clause speaks.
-    pub fn end(self, cause: Cause) -> Ended<N, R>
+    pub fn end(self, cause: Cause) -> Ended<N, S>
         ensures received { (result.received ≡ self.received) × (result.cause ≡ cause) × (result.ways.items ≡ self.ways) }
         ensures counts { (result.taken ≡ self.taken) × (result.refused ≡ self.refused) }
-        ensures kept { kept_of result.writer ≡ kept_of self.writer }
-        ensures held { result.held ≡ option_map (λ e. e.origin) result.writer.held }
+        ensures kept { kept_of (S.written result.writer) ≡ kept_of self.writer }
+        ensures held { listed result.held ≡ take 1 (map (λ e. e.origin) (S.written result.writer).held) }
+        ensures few { length (S.written result.writer).held ≤ S.most_held }
         ensures under_way { IsUnderWay N.limit N.places self }
     {
         let JobWriter {
+            began: _began,
             mut writer,
             receiver: _receiver,
             received,
@@ -269,7 +281,7 @@ impl<N: LineName, R: Wait + Drop> JobWriter<N, R> {
             refused,
             left: _,
         } = self;
-        drop(writer.retry());
+        drop(writer.release());
         meter.set_taking(false);
         Ended::new(writer, taken, refused, received, cause, ways.end())
     }

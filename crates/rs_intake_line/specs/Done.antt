@@ -7,7 +7,7 @@ use Rattle.rs_store.specs.Adding.{Adds}
 use Rattle.rs_store.specs.History.{MayNotCome}
 use Rattle.rs_store.specs.declared.fault.Refusal.TheVariants as refusal
 use Rattle.rs_version.specs.Receipts.{ReceiptValue}
-use Rattle.rs_version.specs.Writer.{Refuses, Written, kept_of, shows}
+use Rattle.rs_version.specs.Writer.{PassesOver, RefusesOf, Written, kept_of, shows}
 use Rattle.rs_version.specs.declared.fault.PutFault.{PutFault}
 use Rattle.rs_version.specs.declared.fault.PutFault.TheVariants.{Full, Held, NoMemory, Stale}
 use Rattle.rs_intake_line.specs.Sweeps.{IsSweptAtMost, without_sweeps}
@@ -27,10 +27,10 @@ abbrev pub IsReceiptFor : Entry → ReceiptValue → List Entry → Type 0
 IsReceiptFor entry r kept = (r.entry ≡ entry) × (r.number ≡ length kept) × (r.told ≡ kept)
 
 -- What a put of the entry leaves, by its outcome. A receipt: the entry is published, behind the Sweep that it needs, and nothing is held.
--- A refusal: what it says of the published list and of the held entry
+-- A refusal: what it says of the published list and of what is held
 abbrev pub IsPut : ℕ → Written → Entry → Outcome → Written → Type 0
 IsPut limit w entry (Ok r) w' = Adds limit (kept_of w) entry (λ list. w' ≡ shows list) × IsReceiptFor entry r w'.published
-IsPut limit w entry (Err f) w' = Refuses limit w entry f w'
+IsPut limit w entry (Err f) w' = RefusesOf limit w entry f w'
 
 -- What the outcome of an entry says of the kept list before the entry and after it. A receipt, 33: the entry follows, behind the Sweep that
 -- it needs, if it needs one. 30: the entry may not come, and the list is the same. 32: the list is the same, or has the Sweep that the
@@ -51,9 +51,15 @@ AreDone limit kept (entry ∷ entries) (outcome ∷ outcomes) kept' = (next : Li
 AreDone limit kept [] (outcome ∷ outcomes) kept' = ⊥
 AreDone limit kept (entry ∷ entries) [] kept' = ⊥
 
--- What was done with an entry, and what is published and held then: it was put; or it was not, and the outcome is that memory was refused
+-- the entry is not put: it is not kept, and nothing changed, or it is held
+abbrev pub IsPassedOver : ℕ → Written → Entry → Outcome → Written → Type 0
+IsPassedOver limit w entry (Ok r) w' = ⊥
+IsPassedOver limit w entry (Err f) w' = PassesOver limit w entry f w'
+
+-- What was done with an entry, and what is published and held then: it was put; or it was not, since one before it of its job is held, or
+-- since memory for the replies was refused
 abbrev pub IsOutcome : ℕ → Written → Entry → Outcome → Written → Type 0
-IsOutcome limit w entry outcome w' = IsPut limit w entry outcome w' ⊎ ((outcome ≡ Err NoMemory) × (w' ≡ w))
+IsOutcome limit w entry outcome w' = IsPut limit w entry outcome w' ⊎ IsPassedOver limit w entry outcome w'
 
 -- the same for these entries, one after the other
 abbrev pub AreOutcomes : ℕ → Written → List Entry → List Outcome → Written → Type 0
@@ -95,11 +101,15 @@ abbrev pub has_held : List Outcome → Bool
 has_held [] = false
 has_held (outcome ∷ outcomes) = is_held outcome || has_held outcomes
 
--- each outcome behind one that says so is that memory was refused
-abbrev pub AreRefusedBehind : List Outcome → Type 0
-AreRefusedBehind [] = Unit {0}
-AreRefusedBehind (outcome ∷ outcomes) = (is_held outcome ≡ true → AllByRecursion (λ a. a ≡ Err NoMemory) outcomes)
-    × AreRefusedBehind outcomes
+-- the outcome is that memory was refused; or, of a writer that may hold more than one entry, that the entry is held
+abbrev pub IsBehindHeld : ℕ → Outcome → Type 0
+IsBehindHeld most outcome = (outcome ≡ Err NoMemory) ⊎ ((outcome ≡ Err Held) × (2 ≤ most))
+
+-- the same of each outcome behind one that says that the entry is held, of a writer that holds so many entries at most
+abbrev pub AreRefusedBehind : ℕ → List Outcome → Type 0
+AreRefusedBehind most [] = Unit {0}
+AreRefusedBehind most (outcome ∷ outcomes) = (is_held outcome ≡ true → AllByRecursion (IsBehindHeld most) outcomes)
+    × AreRefusedBehind most outcomes
 
 -- the replies that have these outcomes, one to each entry
 abbrev pub replies_to : List Entry → List Outcome → List ReplyValue
@@ -136,22 +146,23 @@ pub record AreTold (places : ℕ) (replies : List ReplyValue) (ways : List Told)
   pub each : (place : ℕ) → 0 < place → place ≤ places
       → AreSent (replies_for place replies) (way_to place ways).sent (way_to place ways).gone
 
--- There are outcomes, one for each entry, in their order, by which this list came to be, and by these ways back each place was told those
--- of its own entries. Without its Sweeps the list is the entries that were not refused
-pub record IsWritten (limit places : ℕ) (entries kept : List Entry) (ways : List Told) : Type 0 where
+-- There are outcomes, one for each entry, in their order, by which this list came of the first one, and by these ways back each place was
+-- told those of its own entries. Without its Sweeps the list is the first one, and then the entries that were not refused
+pub record IsWritten (limit places : ℕ) (first entries kept : List Entry) (ways : List Told) : Type 0 where
   pub outcomes : List Outcome
-  pub done : AreDone limit [] entries outcomes kept
-  pub changes : without_sweeps kept ≡ not_refused entries outcomes
+  pub done : AreDone limit first entries outcomes kept
+  pub changes : without_sweeps kept ≡ first ++ not_refused entries outcomes
   pub told : AreTold places (replies_to entries outcomes) ways
 
 -- There are outcomes of these entries, one for each, in their order, which say what was done with them, one after the other; these are the
--- replies that have them, and so many of the entries are not kept. Behind an entry that is held the others of these are refused
-pub record AreReplied (limit : ℕ) (w : Written) (entries : List Entry) (replies : List ReplyValue) (refused : ℕ)
+-- replies that have them, and so many of the entries are not kept. Behind an entry that is held the others of these are refused, or held if the
+-- writer may hold more than one
+pub record AreReplied (limit most : ℕ) (w : Written) (entries : List Entry) (replies : List ReplyValue) (refused : ℕ)
     (w' : Written) : Type 0 where
   pub outcomes : List Outcome
   pub done : AreDone limit (kept_of w) entries outcomes (kept_of w')
   pub outcomes_are : AreOutcomes limit w entries outcomes w'
-  pub behind : AreRefusedBehind outcomes
+  pub behind : AreRefusedBehind most outcomes
   pub replies_are : replies ≡ replies_to entries outcomes
   pub refused_are : refused ≡ refused_in outcomes
 

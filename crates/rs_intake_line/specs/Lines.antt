@@ -23,8 +23,8 @@ abbrev pub next_serial : ℕ → ℕ
 next_serial serial = min (serial + 1) (2 ^ 64 - 1)
 
 -- A place, the last serial that was submitted there, what was sent from it and submitted; the replies that were taken, read or dropped,
--- and those that came and were not taken yet; what was sent ahead, and is not submitted yet; and the last submit's receive that failed, if
--- one did. The queue took what was sent and then what is ahead
+-- and those that came and were not taken yet; what was sent ahead, and is not submitted yet; and the last submit's send or receive that
+-- failed, if one did. The queue took what was sent and then what is ahead
 pub record Line : Type 0 where
   pub place : ℕ
   pub serial : ℕ

@@ -27,9 +27,10 @@ abbrev pub IsFaultOfReply : Entry → ReplyValue → SubmitFault → Type 0
 IsFaultOfReply e reply fault = ((reply.origin ≢ e.origin) × (fault ≡ submit.Strange))
     ⊎ ((reply.origin ≡ e.origin) × IsFaultOfOutcome e reply.outcome fault)
 
--- nothing was sent: the line has no serial left, there is no memory, or the queue is gone
-abbrev pub IsUnsent : ℕ → SubmitFault → Type 0
-IsUnsent serial fault = ((fault ≡ submit.Full) × (serial + 1 ≡ 2 ^ 64)) ⊎ (fault ≡ submit.NoMemory) ⊎ (fault ≡ submit.Closed)
+-- nothing was sent: the line has no serial left, there is no memory, or the send failed, and the line keeps its failure
+abbrev pub IsUnsent : ℕ → Line → SubmitFault → Type 0
+IsUnsent serial after fault = ((fault ≡ submit.Full) × (serial + 1 ≡ 2 ^ 64)) ⊎ (fault ≡ submit.NoMemory)
+    ⊎ ((fault ≡ submit.Closed) × (gone : Gone) × (after.gone ≡ Some gone))
 
 -- just this entry was sent, under a new serial
 abbrev pub IsSent : Line → Line → Entry → Type 0
@@ -44,7 +45,7 @@ IsMistaken before after e fault = IsOther before.ahead e.operation × (after.ser
 -- receipt for it; or another change than this one was sent ahead
 abbrev pub IsRefused : Line → Line → Entry → SubmitFault → Type 0
 IsRefused before after e fault =
-    ((after.sent ≡ before.sent) × (after.heard ≡ before.heard) × IsUnsent before.serial fault)
+    ((after.sent ≡ before.sent) × (after.heard ≡ before.heard) × IsUnsent before.serial after fault)
     ⊎ (IsSent before after e × (after.heard ≡ before.heard) × (fault ≡ submit.Open) × (gone : Gone) × (after.gone ≡ Some gone))
     ⊎ (IsSent before after e × (reply : ReplyValue) × (after.heard ≡ before.heard ++ reply ∷ []) × IsFaultOfReply e reply fault)
     ⊎ IsMistaken before after e fault

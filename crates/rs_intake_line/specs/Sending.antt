@@ -1,12 +1,11 @@
 -- How the writer puts the changes of a job and sends the replies to them, some at a time.
-use Rattle.std.specs.Prelude.{ℕ, ◌≡◌, ◌<◌, ◌-◌, ◌||◌, Bool, true, List, ◌++◌, slice_set, Option, Some, None, Err}
+use Rattle.std.specs.Prelude.{ℕ, ◌≡◌, ◌<◌, ◌-◌, ◌||◌, Bool, true, List, ◌++◌, slice_set, Option, Some, None}
 use Rattle.std.specs.List.{AllByRecursion}
 use Rattle.rs_message.specs.declared.entry.Entry.{Entry}
 use Rattle.rs_store.specs.History.{SerialsRise}
 use Rattle.rs_version.specs.Writer.{Written}
-use Rattle.rs_version.specs.declared.fault.PutFault.TheVariants.{NoMemory}
 use Rattle.rs_intake_queue.specs.Changes.{ArePlain}
-use Rattle.rs_intake_line.specs.Done.{AreReplied, AreSent, ReplyValue, Told, has_held, way_to}
+use Rattle.rs_intake_line.specs.Done.{AreReplied, AreSent, IsBehindHeld, ReplyValue, Told, has_held, way_to}
 use Rattle.rs_intake_line.specs.Sweeps.{IsKeptFrom}
 use Rattle.rs_intake_queue.specs.declared.waiting.Gone.{Gone}
 
@@ -20,13 +19,14 @@ pub record AreToPut (limit : ℕ) (kept rest : List Entry) : Type 0 where
   pub above : AllByRecursion (λ (e : Entry). 0 < e.origin.place) rest
 
 -- The first of the changes that are left of a job have an outcome, and the others are left then. These are the replies, and so many of the
--- changes are not kept: none is, if one of the same job before them is held. Whether one is held afterwards
-pub record ArePut (limit : ℕ) (w : Written) (held : Bool) (rest : List Entry) (replies : List ReplyValue) (refused : ℕ) (held' : Bool)
+-- changes are not kept. If one of the same job before them is held, each is refused, or held if the writer may hold more than one. Whether one is
+-- held afterwards
+pub record ArePut (limit most : ℕ) (w : Written) (held : Bool) (rest : List Entry) (replies : List ReplyValue) (refused : ℕ) (held' : Bool)
     (rest' : List Entry) (w' : Written) : Type 0 where
   pub first : List Entry
   pub are : rest ≡ first ++ rest'
-  pub replied : AreReplied limit w first replies refused w'
-  pub behind : held ≡ true → AllByRecursion (λ a. a ≡ Err NoMemory) replied.outcomes
+  pub replied : AreReplied limit most w first replies refused w'
+  pub behind : held ≡ true → AllByRecursion (IsBehindHeld most) replied.outcomes
   pub held_is : held' ≡ (held || has_held replied.outcomes)
 
 -- These replies were sent behind those before: all of them, unless a send failed, and then not all. If a send before them failed, none

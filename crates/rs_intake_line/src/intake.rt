@@ -73,7 +73,7 @@ impl<N: LineName> Intake<N> {
 
     /// Hands the operation, which is no Sweep, to the writer under the line's next serial, and waits for the receipt. The serial is
     /// used whatever is answered, unless there is no further one. The writer may make a Sweep first, so that there is space. The
-    /// contract also says which reply came (`heard`), if one came; and if none did, the line keeps the [`Gone`](rs_intake_queue::Gone) of its receive.
+    /// contract also says which reply came (`heard`), if one came. If the send or the receive failed, the line keeps its [`Gone`](rs_intake_queue::Gone).
     ///
     /// If the operation is the first that was sent ahead ([`expect`](SeatLine::expect)), nothing is sent, and the reply is the one to its
     /// entry. If something else is, nothing is done, and no serial is used.

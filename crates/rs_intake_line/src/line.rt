@@ -7,7 +7,7 @@ ghost use Rattle.rs_message.specs.Messages.{is_sweep};
 ghost use Rattle.rs_message.specs.declared.entry.Entry.{Entry};
 ghost use Rattle.rs_message.specs.declared.entry.Operation.{Operation};
 ghost use Rattle.rs_message.specs.declared.entry.TheConstants.{MAX_LINES};
-ghost use Rattle.rs_message.specs.declared.fault.SubmitFault.TheVariants.{Strange};
+ghost use Rattle.rs_message.specs.declared.fault.SubmitFault.TheVariants as submit;
 ghost use Rattle.rs_store.specs.History.{last_serial};
 ghost use Rattle.rs_intake_queue.specs.Changes.{AreNext, AreOf, AreOfLine, entry_at, numbered};
 ghost use Rattle.rs_intake_line.specs.Done.{ReplyValue};
@@ -90,13 +90,13 @@ impl<N: LineName> LineSender<N> {
         }
     }
 
-    /// Whether the queue took the changes, as one job.
-    fn send_changes<R: Wait>(&mut self, rt: &R, changes: Changes) -> bool
+    /// Sends the changes, as one job. [`Gone`] if the queue did not take it.
+    fn send_changes<R: Wait>(&mut self, rt: &R, changes: Changes) -> Result<(), Gone>
         requires place { AreOf self.old.place changes }
         requires above { AreAbove self.old.sent changes }
         requires fits { length self.old.sent + length changes < 2 ^ 64 }
         ensures place { self.new.place ≡ self.old.place }
-        ensures sent { MatchBool result (self.new.sent ≡ self.old.sent ++ changes) (self.new.sent ≡ self.old.sent) }
+        ensures sent { MatchResult result (λ _. self.new.sent ≡ self.old.sent ++ changes) (λ _. self.new.sent ≡ self.old.sent) }
     {
         let count = changes.len() as u64;
         // Before, so that the writer takes no change that was not counted.
@@ -104,11 +104,11 @@ impl<N: LineName> LineSender<N> {
         match send(rt, &self.sender, &mut self.pass, Job::Put(changes)) {
             Ok(()) => {
                 self.sent += count;
-                true
+                Ok(())
             }
-            Err(_) => {
+            Err(gone) => {
                 self.meter.take_back_sent(count);
-                false
+                Err(gone)
             }
         }
     }
@@ -215,7 +215,7 @@ pub struct SeatLine<N: LineName> {
     serial: u64,
     replies: ReplyReceiver<N>,
     ahead: Ahead,
-    // The last receive of a submit that failed.
+    // The last send or receive of a submit that failed.
     gone: Option<Gone>,
     alloc: Global,
 }
@@ -306,7 +306,7 @@ impl<N: LineName> SeatLine<N> {
         let Some((job, ahead)) = announce(self.alloc, place, self.serial, changes) else {
             return;
         };
-        if self.line.send_changes(rt, job) {
+        if let Ok(()) = self.line.send_changes(rt, job) {
             self.ahead = ahead;
         }
     }
@@ -373,7 +373,7 @@ impl<N: LineName> SeatLine<N> {
         self.serial = entry.origin.serial();
     }
 
-    /// Uses the next serial, and sends the entry, which has it, by itself.
+    /// Uses the next serial, and sends the entry, which has it, by itself. If the send fails, the line keeps its [`Gone`].
     fn send_alone<R: Wait>(&mut self, rt: &R, entry: Entry) -> Result<Entry, SubmitFault>
         requires plain { is_sweep entry.operation ≡ false }
         requires origin { entry.origin ≡ record { place = self.old.place; serial = self.old.serial + 1 } }
@@ -382,8 +382,9 @@ impl<N: LineName> SeatLine<N> {
         ensures entry { IfOk result (λ e. e ≡ entry) }
         ensures sent { MatchResult result (λ e. self.new.sent ≡ self.old.sent ++ e ∷ []) (λ _. self.new.sent ≡ self.old.sent) }
         ensures same { (self.new.heard ≡ self.old.heard) × (self.new.ahead ≡ []) }
-        ensures unsent { IfErr result (λ f. IsUnsent self.old.serial f) }
-        ensures gone { self.new.gone ≡ self.old.gone }
+        ensures unsent { IfErr result (λ f. IsUnsent self.old.serial self.new f) }
+        ensures gone { MatchResult result (λ _. self.new.gone ≡ self.old.gone)
+            (λ f. (self.new.gone ≡ self.old.gone) ⊎ (f ≡ submit.Closed)) }
     {
         self.serial = entry.origin.serial();
         // For the proof: this call says that the place is not the writer's.
@@ -395,17 +396,19 @@ impl<N: LineName> SeatLine<N> {
             // Refused: the memory for a list of one, or what has to be left.
             return Err(SubmitFault::NoMemory);
         };
-        if self.line.send_changes(rt, changes) {
-            Ok(entry)
-        } else {
+        match self.line.send_changes(rt, changes) {
+            Ok(()) => Ok(entry),
             // Refused: the job. The send has failed.
-            Err(SubmitFault::Closed)
+            Err(gone) => {
+                self.gone = Some(gone);
+                Err(SubmitFault::Closed)
+            }
         }
     }
 
     /// Submits the operation under the next serial. If it is the first that is ahead, it was sent already; if nothing is ahead, it is sent
-    /// alone. The result is its entry, or why nothing was sent: `Full` if there is no further serial, `NoMemory`, `Closed`, or `Strange` if
-    /// something else is ahead, and then no serial is used.
+    /// alone. The result is its entry, or why nothing was sent: `Full` if there is no further serial, `NoMemory`, `Closed` if the send failed,
+    /// whose [`Gone`] the line keeps, or `Strange` if something else is ahead, and then no serial is used.
     pub(crate) fn send<R: Wait>(
         &mut self,
         rt: &R,
@@ -414,16 +417,17 @@ impl<N: LineName> SeatLine<N> {
         requires { is_sweep operation ≡ false }
         ensures place { self.new.place ≡ self.old.place }
         ensures serial { (self.new.serial ≡ next_serial self.old.serial) ⊎ IsOther self.old.ahead operation }
-        ensures other { IsOther self.old.ahead operation → (result ≡ Err Strange) × (self.new.serial ≡ self.old.serial)
+        ensures other { IsOther self.old.ahead operation → (result ≡ Err submit.Strange) × (self.new.serial ≡ self.old.serial)
             × (self.new.sent ≡ self.old.sent) }
         ensures entry { IfOk result (λ e. (e ≡ entry_at self.old.place self.new.serial operation)
             × (self.new.serial ≡ self.old.serial + 1)) }
         ensures sent { MatchResult result (λ e. self.new.sent ≡ self.old.sent ++ e ∷ []) (λ _. self.new.sent ≡ self.old.sent) }
         ensures heard { self.new.heard ≡ self.old.heard }
-        ensures unsent { IfErr result (λ f. IsUnsent self.old.serial f
-            ⊎ ((f ≡ Strange) × (self.new.serial ≡ self.old.serial) × IsOther self.old.ahead operation)) }
+        ensures unsent { IfErr result (λ f. IsUnsent self.old.serial self.new f
+            ⊎ ((f ≡ submit.Strange) × (self.new.serial ≡ self.old.serial) × IsOther self.old.ahead operation)) }
         ensures ahead { IsAheadAfter self.old.ahead operation self.new.ahead }
-        ensures gone { self.new.gone ≡ self.old.gone }
+        ensures gone { MatchResult result (λ _. self.new.gone ≡ self.old.gone)
+            (λ f. (self.new.gone ≡ self.old.gone) ⊎ (f ≡ submit.Closed)) }
     {
         let Some(serial) = self.serial.checked_add(1) else {
             return Err(SubmitFault::Full);

@@ -48,7 +48,7 @@ pub struct MetricsServer {
 }
 
 impl MetricsServer {
-    /// Binds an address: a host's name, an IPv4 or an IPv6 address, and a port, as `localhost:9100` or `[::1]:9100`. Port 0 takes one that is free.
+    /// Binds an address: a host's name, an IPv4 or an IPv6 address, and a port, as `localhost:9884` or `[::1]:9884`. Port 0 takes one that is free.
     ///
     /// # Errors
     ///

@@ -5,14 +5,15 @@ use Rattle.std.proofs.lemmas.Bool.Decides.{nat_tests}
 use Rattle.std.proofs.lemmas.List.{map-append}
 use Rattle.std.proofs.lemmas.List.Elements.{filter-append}
 use Rattle.std.specs.List.{AllZip, filter}
+use Rattle.rs_message.specs.declared.entry.Entry.{Entry}
 use Rattle.rs_intake_line.specs.Lines.{Line, new_line, new_lines}
 use Rattle.rs_intake_queue.specs.Ends.{Closed}
 use Rattle.rs_intake.specs.Settling.{EachOnce, ends_at}
-use Rattle.rs_places_turns.specs.Places.{IsPlaceServed, Left, places_of}
-use Rattle.rs_places_turns.specs.Visits.{Place}
+use Rattle.rs_places_steps.specs.Places.{IsPlaceServed, Left, places_of}
+use Rattle.rs_places_steps.specs.Visits.{Place}
 use Rattle.rs_places.specs.Gates.{handed_on}
 use Rattle.rs_places.specs.Store.{new_gates}
-use Rattle.rs_places_turns.specs.Turns.{Connections}
+use Rattle.rs_places_steps.specs.Turns.{Connections}
 
 -- how many of the numbers are this one
 abbrev count_of : ℕ → List ℕ → ℕ
@@ -81,16 +82,16 @@ numbers_left limit (p ∷ ps) (e ∷ es) each =
     let served : IsPlaceServed limit p e = each.0 in
     ap (λ n. n ∷ map (λ (end : Left). end.line.place) es) served.number ∙ ap (λ l. p.gate.mark.place ∷ l) (numbers_left limit ps es each.1)
 
-numbers_of_places : (turns : List Connections) (lines : List Line) → length turns ≡ length lines
-    → map (λ (place : Place). place.gate.mark.place) (places_of turns (map (λ (line : Line). handed_on [] line) lines)) ≡ map number_of lines
-numbers_of_places [] [] same = refl
-numbers_of_places [] (line ∷ lines) same = absurd (omega (arith, same))
-numbers_of_places (connections ∷ turns) [] same = absurd (omega (arith, same))
-numbers_of_places (connections ∷ turns) (line ∷ lines) same = ap (λ l. line.place ∷ l) (numbers_of_places turns lines (omega (arith, same)))
+numbers_of_places : (known : List Entry) (turns : List Connections) (lines : List Line) → length turns ≡ length lines
+    → map (λ (place : Place). place.gate.mark.place) (places_of turns (map (λ (line : Line). handed_on known line) lines)) ≡ map number_of lines
+numbers_of_places known [] [] same = refl
+numbers_of_places known [] (line ∷ lines) same = absurd (omega (arith, same))
+numbers_of_places known (connections ∷ turns) [] same = absurd (omega (arith, same))
+numbers_of_places known (connections ∷ turns) (line ∷ lines) same = ap (λ l. line.place ∷ l) (numbers_of_places known turns lines (omega (arith, same)))
 
 -- each place has one
-pub each_once : (limit places : ℕ) (turns : List Connections) (left : List Left) → length turns ≡ length (new_lines places) → AllZip (IsPlaceServed limit) (places_of turns (new_gates places)) left
+pub each_once : (limit places : ℕ) (known : List Entry) (turns : List Connections) (left : List Left) → length turns ≡ length (new_lines places) → AllZip (IsPlaceServed limit) (places_of turns (new_gates known places)) left
     → EachOnce places (map (λ (end : Left). end.line) left)
-each_once limit places turns left same each place some there =
-    let numbers = numbers_left limit (places_of turns (new_gates places)) left each ∙ numbers_of_places turns (new_lines places) same in
+each_once limit places known turns left same each place some there =
+    let numbers = numbers_left limit (places_of turns (new_gates known places)) left each ∙ numbers_of_places known turns (new_lines places) same in
     ends_count place left ∙ (ap (count_of place) numbers ∙ count_new places place some there)

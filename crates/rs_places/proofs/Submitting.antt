@@ -10,8 +10,8 @@ use Rattle.rs_session.specs.Gate.{Mark, Sends, SendsAtMost, Submits, TakesPendin
 use Rattle.rs_intake_queue.specs.Changes.{entry_at, numbered}
 use Rattle.rs_intake_line.specs.Lines.{AddsAtMost, IsAheadAfter, IsOther, Line, next_serial}
 use Rattle.rs_intake_line.specs.Refusals.{IsRefused, IsUnsent}
-use Rattle.rs_places_turns.specs.Shared.{SharedValue, operations_of}
-use Rattle.rs_places_turns.proofs.Receipts.{none_handed_over}
+use Rattle.rs_places_steps.specs.Shared.{SharedValue, operations_of}
+use Rattle.rs_places_steps.proofs.Receipts.{none_handed_over}
 use Rattle.rs_places.specs.Gates.{IsOtherPending, gate_of, handed_on, mark_of}
 
 -- a submit to which no reply came, or that the writer holds, used a serial
@@ -20,12 +20,12 @@ used_if_open before after e submit_fault.Full refused = tt
 used_if_open before after e submit_fault.NoMemory refused = tt
 used_if_open before after e submit_fault.Strange refused = tt
 used_if_open before after e submit_fault.Closed refused = tt
-used_if_open before after e submit_fault.Open (inl unsent) = absurd (not_unsent before.serial unsent.2)
+used_if_open before after e submit_fault.Open (inl unsent) = absurd (not_unsent before.serial after unsent.2)
   where
-    not_unsent : (serial : ℕ) → IsUnsent serial submit_fault.Open → ⊥
-    not_unsent serial (inl (full, last)) = absurd (cc (full))
-    not_unsent serial (inr (inl none)) = absurd (cc (none))
-    not_unsent serial (inr (inr closed)) = absurd (cc (closed))
+    not_unsent : (serial : ℕ) (after : Line) → IsUnsent serial after submit_fault.Open → ⊥
+    not_unsent serial after (inl (full, last)) = absurd (cc (full))
+    not_unsent serial after (inr (inl none)) = absurd (cc (none))
+    not_unsent serial after (inr (inr closed)) = let is = closed.0 in absurd (cc (is))
 used_if_open before after e submit_fault.Open (inr (inl sent)) = let next = sent.0.0 in omega (arith, next)
 used_if_open before after e submit_fault.Open (inr (inr (inl sent))) = let next = sent.0.0 in omega (arith, next)
 used_if_open before after e submit_fault.Open (inr (inr (inr mistaken))) = let strange = mistaken.4 in absurd (cc (strange))

@@ -4,7 +4,7 @@ use Rattle.rs_message.specs.declared.entry.Entry.{Entry}
 use Rattle.rs_message.specs.declared.entry.Operation.{Operation}
 use Rattle.rs_intake_line.specs.Lines.{Line}
 use Rattle.rs_session.specs.Gate.{Mark}
-use Rattle.rs_places_turns.specs.Shared.{SharedValue, operations_of}
+use Rattle.rs_places_steps.specs.Shared.{SharedValue, operations_of}
 
 -- the mark of a line, without what is ahead of it
 abbrev pub mark_of : Line → Mark

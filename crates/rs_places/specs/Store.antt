@@ -3,7 +3,6 @@ use Rattle.std.specs.Prelude.{◌≡◌, ℕ, ◌+◌, ◌^◌, ◌≤◌, List,
 use Rattle.std.specs.List.{AllZip}
 use Rattle.rs_message.specs.declared.entry.Entry.{Entry}
 use Rattle.rs_store.specs.History.{IsLegal}
-use Rattle.rs_version.specs.Copies.{listed}
 use Rattle.rs_intake_line.specs.Done.{AreDone, Outcome, not_refused}
 use Rattle.rs_intake_line.specs.Lines.{Line, new_lines}
 use Rattle.rs_intake.specs.declared.cause.Cause.{Cause}
@@ -16,11 +15,11 @@ use Rattle.rs_intake_queue.specs.Parts.{IsPart}
 use Rattle.rs_intake_queue.specs.QueueRule.{of_place}
 use Rattle.rs_session.specs.Gate.{Extends}
 use Rattle.rs_places.specs.Gates.{handed_on}
-use Rattle.rs_places_turns.specs.Places.{IsPlaceServed, Left, places_of}
-use Rattle.rs_places_turns.specs.Shared.{SharedValue}
-use Rattle.rs_places_turns.specs.Turns.{Connections}
-use Rattle.rs_places_turns.specs.Visits.{Place}
-use Rattle.rs_places_turns.specs.Within.{ArePublications, AreWithin}
+use Rattle.rs_places_steps.specs.Places.{IsPlaceServed, Left, places_of}
+use Rattle.rs_places_steps.specs.Shared.{SharedValue}
+use Rattle.rs_places_steps.specs.Turns.{Connections}
+use Rattle.rs_places_steps.specs.Visits.{Place}
+use Rattle.rs_places_steps.specs.Within.{ArePublications, AreWithin}
 
 -- the gates of these seats and lines, which are handed on. What is left of the longer list is left out
 abbrev pub gates_of : List (List Entry) → List Line → List SharedValue
@@ -28,9 +27,9 @@ gates_of [] lines = []
 gates_of (seat ∷ seats) [] = []
 gates_of (seat ∷ seats) (line ∷ lines) = handed_on seat line ∷ gates_of seats lines
 
--- the gates of so many new places, from 1 on. They know nothing, and sent nothing
-abbrev pub new_gates : ℕ → List SharedValue
-new_gates places = map (λ line. handed_on [] line) (new_lines places)
+-- the gates of so many new places, from 1 on, of a store that begins with this list. They know just that, and sent nothing
+abbrev pub new_gates : List Entry → ℕ → List SharedValue
+new_gates first places = map (λ line. handed_on first line) (new_lines places)
 
 -- What a place's line sent, over a store with this history, whose writer took these entries.
 pub record IsLineOf (history entries : List Entry) (line : Closed) : Type 0 where
@@ -73,37 +72,40 @@ IsEndOfRun taken lines AllEnded = AreTaken taken lines
 IsEndOfRun taken lines MostTaken = 2 ^ 64 ≤ length taken + MAX_CHANGES
 IsEndOfRun taken lines (QueueGone gone) = Unit {0}
 
--- The writer of a run over so many places published so many entries.
-pub record IsWriterRun (limit places version : ℕ) : Type 0 where
-  -- There is one legal history, the list that the writer keeps. So many entries of it were published, from the first on: all, or all but
-  -- the last, which is held then. It would be published before any other.
+-- The writer of a run over so many places, whose store began with this list, published so many entries.
+pub record IsWriterRun (limit places : ℕ) (first : List Entry) (version : ℕ) : Type 0 where
+  -- There is one legal history, the list that the writer keeps, which begins with the first list. So many entries of it were published,
+  -- from the first on: all, or all but the last, which is held then. It would be published before any other.
   pub history : List Entry
   pub legal : IsLegal limit history
+  pub begins : Extends history first
   pub published : List Entry
-  pub held : Option Entry
-  pub whole : history ≡ published ++ listed held
+  pub held : List Entry
+  pub few : length held ≤ 1
+  pub whole : history ≡ published ++ held
   pub entries : version ≡ length published
-  -- The writer took these entries, and each has an outcome. By these the history came to be. All of it but the Sweeps are the entries that
-  -- were not refused.
+  -- The writer took these entries, and each has an outcome. By these the history came of the first list. All of it but the Sweeps are the
+  -- first list, and then the entries that were not refused.
   pub taken : List Entry
   pub outcomes : List Outcome
-  pub done : AreDone limit [] taken outcomes history
-  pub not_refused_are : without_sweeps history ≡ not_refused taken outcomes
+  pub done : AreDone limit first taken outcomes history
+  pub not_refused_are : without_sweeps history ≡ first ++ not_refused taken outcomes
   -- the entries that it took are of these places alone
   pub placed : AreOfPlaces places taken
   -- so of each place it has what was taken of the place less what was refused
-  pub not_refused_of : (place : ℕ) → of_place place (without_sweeps history) ≡ of_place place (not_refused taken outcomes)
+  pub not_refused_of : (place : ℕ) → of_place place (without_sweeps history) ≡ of_place place (first ++ not_refused taken outcomes)
 
--- A store of so many new places was run, each of them a client's line. Each place served its turn, from that before to that after; the
--- writer published so many entries, and ended for this cause; and so many changes are settled, or it is known that not all were taken.
--- Nothing is said of seats and of threads, of which there may be fewer.
-pub record IsStoreRun (limit places : ℕ) (before after : List Connections) (version : ℕ) (changes : Option ℕ) (cause : Cause) : Type 0 where
+-- A store that began with this list was run over so many new places, each of them a client's line. Each place served its turn, from that
+-- before to that after; the writer published so many entries, and ended for this cause; and so many changes are settled, or it is known
+-- that not all were taken. Nothing is said of seats and of threads, of which there may be fewer.
+pub record IsStoreRun (limit places : ℕ) (first : List Entry) (before after : List Connections) (version : ℕ) (changes : Option ℕ)
+    (cause : Cause) : Type 0 where
   -- the history, and what the writer took and published
-  pub writer : IsWriterRun limit places version
+  pub writer : IsWriterRun limit places first version
   pub open writer use *
   -- of each place: its connections, what they saw, what they sent, and what became of that
   pub left : List Left
-  pub each : AllZip (IsPlaceOf limit history taken) (places_of before (new_gates places)) left
+  pub each : AllZip (IsPlaceOf limit history taken) (places_of before (new_gates first places)) left
   pub count : length left ≡ places
   pub turns : after ≡ map (λ end. end.connections) left
   pub ended : IsEndOfRun taken (map (λ end. end.line) left) cause

@@ -11,18 +11,17 @@ ghost use Rattle.rs_version.specs.Writer.{kept_of};
 use crate::store::StoreEnd;
 use rs_intake::{Ended, settle};
 use rs_intake_line::{LineEnd, LineName};
-use rs_places_turns::PlaceEnd;
-use rs_version::VersionWriter;
-use std::sync::Wait;
+use rs_places_steps::PlaceEnd;
+use rs_version::StoreWriter;
 
 /// Says that what the gate of each place knew last is a prefix of the list that the writer keeps.
-fn cover_all<N: LineName, T: Drop, R: Wait + Drop>(
+fn cover_all<N: LineName, T: Drop, S: StoreWriter<N>>(
     ends: &Vec<PlaceEnd<N, LineEnd<N>, T>>,
-    writer: &mut VersionWriter<N, R>,
+    writer: &mut S,
 )
-    ensures known { All (λ end. IsPrefix end.told (kept_of writer.old)) ends.now.items }
-    ensures legal { IsLegal N.limit (kept_of writer.old) }
-    ensures same { writer.new ≡ writer.old }
+    ensures known { All (λ end. IsPrefix end.told (kept_of (S.written writer.old))) ends.now.items }
+    ensures legal { IsLegal N.limit (kept_of (S.written writer.old)) }
+    ensures same { S.written writer.new ≡ S.written writer.old }
 {
     // For the proof: this call says that the kept list is legal, also if there are no ends.
     let told = writer.tell();
@@ -60,10 +59,10 @@ fn part_ends<N: LineName, T: Drop>(
 
 /// Settles a run once its writer and all its places have ended, for which there were so many threads, and gives what it leaves. Each place
 /// has the end of its line. `lines` and `turns` are empty and have the capacity for all, so this takes no memory.
-pub(crate) fn settle_run<N: LineName, T: Drop, R: Wait + Drop>(
+pub(crate) fn settle_run<N: LineName, T: Drop, S: StoreWriter<N>>(
     ends: Vec<PlaceEnd<N, LineEnd<N>, T>>,
     threads: usize,
-    ended: Ended<N, R>,
+    ended: Ended<N, S>,
     lines: Vec<LineEnd<N>>,
     turns: Vec<T>,
 ) -> StoreEnd<T>
@@ -71,9 +70,9 @@ pub(crate) fn settle_run<N: LineName, T: Drop, R: Wait + Drop>(
     requires capacity { (length ends.items ≤ vec_capacity lines) × (length ends.items ≤ vec_capacity turns) }
     requires once { EachOnce N.places (map (λ end. end.line) ends.items) }
     ensures turns { result.turns.items ≡ map (λ end. end.turn) ends.items }
-    ensures version { result.version ≡ length ended.writer.published }
-    ensures legal { IsLegal N.limit (kept_of ended.writer) }
-    ensures known { All (λ end. IsPrefix end.told (kept_of ended.writer)) ends.items }
+    ensures version { result.version ≡ length (S.written ended.writer).published }
+    ensures legal { IsLegal N.limit (kept_of (S.written ended.writer)) }
+    ensures known { All (λ end. IsPrefix end.told (kept_of (S.written ended.writer))) ends.items }
     ensures order { AreTakenInOrder ended.received.entries (map (λ end. end.line) ends.items) }
     ensures ended { HaveEnded N.places ended.received.ends → AreTaken ended.received.entries (map (λ end. end.line) ends.items) }
     ensures cause { result.cause ≡ ended.cause }

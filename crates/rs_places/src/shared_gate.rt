@@ -9,7 +9,7 @@ ghost use Rattle.rs_message.specs.declared.entry.Entry.{Entry};
 ghost use Rattle.rs_message.specs.declared.entry.TheConstants.{MAX_LINES};
 ghost use Rattle.rs_message.specs.declared.fault.SubmitFault.TheVariants.{Strange};
 ghost use Rattle.rs_message.specs.Messages.{is_sweep};
-ghost use Rattle.rs_places_turns.specs.Shared.{HandsOn, Knows, operations_of};
+ghost use Rattle.rs_places_steps.specs.Shared.{HandsOn, Knows, operations_of};
 ghost use Rattle.rs_places.specs.Gates.{IsOtherPending, handed_on};
 ghost use Rattle.rs_session.specs.Gate.{Grows, Sends, SendsAtMost, Submits, TakesPending, Uses, entry_by};
 ghost use Rattle.rs_store.specs.History.{IsLegal};
@@ -20,7 +20,7 @@ use rs_intake_line::{Intake, LineEnd, LineName, SeatLine};
 use rs_intake_queue::MAX_CHANGES;
 use rs_message::{Found, Operation, SubmitFault};
 use rs_metrics::FilterOutcome;
-use rs_places_turns::{LineGate, StoreGate};
+use rs_places_steps::{LineGate, StoreGate};
 use rs_session::Gate;
 use rs_topic::TopicFilter;
 use rs_version::{Seat, StoreName, Told, Version};
@@ -46,7 +46,7 @@ pub struct SharedGate<N: LineName, R: Wait + Copy> {
 
 impl<N: LineName, R: Wait + Copy> Model for SharedGate<N, R> {
     ghost use Rattle.rs_store.specs.History.{IsLegal};
-    ghost use Rattle.rs_places_turns.specs.Shared.{SharedValue};
+    ghost use Rattle.rs_places_steps.specs.Shared.{SharedValue};
     ghost use Rattle.rs_places.specs.Gates.{gate_of};
 
     ghost Value = { SharedValue };
@@ -165,7 +165,7 @@ impl<N: LineName, R: Wait + Copy> SharedGate<N, R> {
 
 impl<N: LineName, R: Wait + Copy> Gate for SharedGate<N, R> {
     ghost use Rattle.rs_intake_queue.specs.declared.job.TheConstants.{MAX_CHANGES};
-    ghost use Rattle.rs_places_turns.specs.Shared.{Knows};
+    ghost use Rattle.rs_places_steps.specs.Shared.{Knows};
 
     ghost stands = { Knows N.limit };
 

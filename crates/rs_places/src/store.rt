@@ -1,10 +1,12 @@
 //! A whole store: its writer on a thread of its own, and its clients, each with a line of its own, from the first connection to the
 //! settlement.
 
-ghost use Rattle.std.specs.Prelude.{◌≡◌, [], IfOk, All, List, length, map};
+ghost use Rattle.std.specs.Prelude.{◌≡◌, IfOk, IfSome, [], All, List, length, map};
 ghost use Rattle.rs_message.specs.declared.entry.Entry.{Entry};
 ghost use Rattle.rs_places.specs.Gates.{handed_on};
 ghost use Rattle.rs_places.specs.Store.{IsStoreRun, gates_of};
+ghost use Rattle.rs_places.specs.Writing.{HasWritten};
+ghost use Rattle.rs_version.specs.First.{AreOwn, first_of};
 ghost use Rattle.rs_version.specs.Writer.{kept_of};
 
 use crate::seats::Seats;
@@ -12,12 +14,13 @@ use crate::settling::settle_run;
 use crate::shared_gate::SharedGate;
 use rs_intake::{BlankQueue, Cause, Ended, Queue, run_writer};
 use rs_intake_line::{Intake, LineName, SeatLine};
+use rs_message::Found;
 use rs_places_pool::{Runner, Watch};
-use rs_places_steps::run_places;
-use rs_places_turns::{FreeGate, FreeTurn, PlacesEnd, StoreFault, Turn};
-use rs_version::{Blank, Seat, Told, VersionWriter};
+use rs_places_steps::{FreeGate, FreeTurn, PlacesEnd, StoreFault, Turn, run_places};
+use rs_version::{Blank, Seat, StoreWriter, Told};
 use std::alloc::{AllocError, Global};
-use std::marker::Brand;
+use std::marker::{Brand, PhantomData};
+use std::snapshot::Snapshot;
 use std::sync::{Arc, Wait};
 use std::thread::{Promise, PromisedHandle, Threads, spawn_with};
 
@@ -111,40 +114,72 @@ pub fn open_gates<N: LineName, H: Wait + Copy>(
     sharing_gates(rt, alloc, intake, seats, known, lines)
 }
 
-/// What the writer's thread promises: the list that it keeps came to be by the outcomes of the entries that it took, each line was told
-/// those of its own entries, these are of its lines alone, and why it ended.
+/// What the writer's thread promises (`HasWritten`): what it did since it began.
 #[derive(Drop)]
-struct PutsJobs;
+struct PutsJobs<N: LineName, S: StoreWriter<N>> {
+    // The writer when it began.
+    began: Snapshot<S>,
+    name: PhantomData<N>,
+}
 
-impl<N: LineName, R: Wait + Drop> Promise<Ended<N, R>> for PutsJobs {
-    ghost use Rattle.std.specs.Prelude.{◌-◌, ◌^◌};
-    ghost use Rattle.rs_intake_line.specs.Done.{IsWritten};
-    ghost use Rattle.rs_intake.specs.Causes.{IsCause};
-    ghost use Rattle.rs_intake.specs.Settling.{AreOfPlaces};
+impl<N: LineName, S: StoreWriter<N>> Promise<Ended<N, S>> for PutsJobs<N, S> {
+    ghost use Rattle.rs_places.specs.Writing.{HasWritten};
     ghost use Rattle.rs_version.specs.Writer.{kept_of};
 
-    ghost kept_by = { λ promise ended. IsWritten N.limit N.places ended.received.entries (kept_of ended.writer) ended.ways.items
-        × AreOfPlaces N.places ended.received.entries × IsCause N.places (2 ^ 64 - 1) ended.received ended.cause };
+    ghost kept_by = { λ promise ended. HasWritten N.limit N.places S.most_held (kept_of (S.written promise.began.value)) (S.written ended.writer)
+        ended.received ended.ways.items ended.cause };
+}
+
+/// Runs the writer's loop, and says what it promises as one fact.
+fn put_jobs<N: LineName, S: StoreWriter<N>, W: Wait>(
+    rt: &W,
+    queue: Queue<N>,
+    writer: S,
+) -> Ended<N, S>
+    requires own { AreOwn (kept_of (S.written writer)) }
+    requires ready { S.ready writer ≡ [] }
+    ensures { HasWritten N.limit N.places S.most_held (kept_of (S.written writer)) (S.written result.writer) result.received result.ways.items
+        result.cause }
+{
+    run_writer(rt, queue, writer)
 }
 
 /// The writer's thread.
-type WriterThread<N, H> = PromisedHandle<Ended<N, H>, PutsJobs>;
+type WriterThread<N, S> = PromisedHandle<Ended<N, S>, PutsJobs<N, S>>;
 
 /// Starts the writer's thread, which runs [`run_writer`]. None if it cannot be started: the writer and the queue are dropped then.
 fn start_writer<
     N: LineName + Send + Sync + 'static,
+    S: StoreWriter<N> + Send + 'static,
     H: Threads + Wait + Copy + Send + Sync + 'static,
->(rt: H, queue: Queue<N>, writer: VersionWriter<N, H>) -> Option<WriterThread<N, H>>
-    requires { kept_of writer ≡ [] }
+>(rt: H, queue: Queue<N>, writer: S) -> Option<WriterThread<N, S>>
+    requires own { AreOwn (kept_of (S.written writer)) }
+    requires ready { S.ready writer ≡ [] }
+    ensures { IfSome result (λ handle. handle.promise.began.value ≡ writer) }
 {
-    spawn_with(&rt, PutsJobs, move || run_writer(&rt, queue, writer)).ok()
+    let began = Snapshot::of(&writer);
+    spawn_with(
+        &rt,
+        PutsJobs {
+            began,
+            name: PhantomData,
+        },
+        move ||
+            requires own { AreOwn (kept_of (S.written writer)) }
+            requires ready { S.ready writer ≡ [] }
+            ensures { HasWritten N.limit N.places S.most_held (kept_of (S.written writer)) (S.written result.writer) result.received
+                result.ways.items result.cause }
+        { put_jobs(&rt, queue, writer) },
+    )
+    .ok()
 }
 
-/// Runs a store that is empty at first: serves a turn for each client, as [`run_places`] does with this runner, with the writer on a thread
-/// of its own, and settles. Each client has a line of its own, whose number is its place: the first turn goes with place 1, and so on. The
+/// Runs a store that begins with these messages, one for each topic, of which there may be none: serves a turn for each client, as
+/// [`run_places`] does with this runner, with the writer on a thread of its own, and settles. Before any line is used, the writer puts a Set
+/// of each message ([`Blank::open_with`]), and each client knows it. Each client has a line of its own, whose number is its place: the first turn goes with place 1, and so on. The
 /// clients read by the seats of `blank`. If there are as many as clients, each has one, and otherwise they share them.
 ///
-/// The contract is one statement about the run, `IsStoreRun`: there is one legal history, which came to be by the outcomes of the
+/// The contract is one statement about the run, `IsStoreRun`: there is one legal history, which came of these Sets by the outcomes of the
 /// entries that the writer took, all from these places, and published, but for its last entry, if that is held; all lists that any
 /// connection of any client was answered from are prefixes of it; each retained publication that any client was told is stored stands in it
 /// once; each client served all connections of its turn, over their own bytes and at their own times; what a client sent are their retained
@@ -153,7 +188,8 @@ fn start_writer<
 ///
 /// # Errors
 ///
-/// [`StoreFault`]. Then no connection was served, but no clause says so.
+/// [`StoreFault`]: out of memory, also if the messages count more bytes than they may; more messages than topics may hold one; or no thread
+/// can be started. Then no connection was served, but no clause says so.
 pub fn run_store<
     T: Turn + Send + Drop + 'static,
     H: Threads + Wait + Copy + Send + Sync + 'static,
@@ -162,6 +198,7 @@ pub fn run_store<
     rt: H,
     alloc: Global,
     blank: Blank,
+    given: Vec<Found>,
     queue: BlankQueue,
     turns: Vec<FreeTurn<T>>,
     runner: Runner<W>,
@@ -171,10 +208,10 @@ where
     T::Out: Send + 'static,
     T::Time: Send + 'static,
     requires { queue.places ≡ length turns.items }
-    ensures { IfOk result (λ end. IsStoreRun blank.limit queue.places (map T.connections turns.items) (map T.connections end.turns.items)
+    ensures { IfOk result (λ end. IsStoreRun blank.limit queue.places (first_of given.items) (map T.connections turns.items) (map T.connections end.turns.items)
         end.version end.changes end.cause) }
 {
-    run_named::<Brand, T, H, W>(rt, alloc, blank, queue, turns, runner)
+    run_named::<Brand, T, H, W>(rt, alloc, blank, given, queue, turns, runner)
 }
 
 fn run_named<
@@ -186,6 +223,7 @@ fn run_named<
     rt: H,
     alloc: Global,
     blank: Blank,
+    given: Vec<Found>,
     queue: BlankQueue,
     turns: Vec<FreeTurn<T>>,
     runner: Runner<W>,
@@ -197,10 +235,10 @@ where
     requires store { (blank.history ≡ N.history) × (blank.limit ≡ N.limit) }
     requires queue { (queue.name ≡ N.queue) × (queue.places ≡ N.places) }
     requires turns { queue.places ≡ length turns.items }
-    ensures { IfOk result (λ end. IsStoreRun blank.limit queue.places (map T.connections turns.items) (map T.connections end.turns.items)
+    ensures { IfOk result (λ end. IsStoreRun blank.limit queue.places (first_of given.items) (map T.connections turns.items) (map T.connections end.turns.items)
         end.version end.changes end.cause) }
 {
-    let (writer, seats) = blank.open::<N, H>(rt)?;
+    let (writer, seats) = blank.open_with::<N, H>(rt, given)?;
     let (intake, lines, queue) = queue.open::<N>()?;
     let gates = open_gates(rt, alloc, intake, seats, lines)?;
     // Before any thread starts, so that nothing is lost.

@@ -6,11 +6,11 @@ use Rattle.rs_message.specs.declared.entry.Operation.{Operation}
 use Rattle.rs_intake_queue.specs.Changes.{AreOfLine}
 use Rattle.rs_intake_queue.specs.Ends.{Closed, IsClosed}
 use Rattle.rs_session.specs.Gate.{Sends}
-use Rattle.rs_places_turns.specs.Places.{IsPlaceServed, left_at}
-use Rattle.rs_places_turns.specs.Shared.{operations_of}
-use Rattle.rs_places_turns.specs.Turns.{Connections, Ending, GivesNext, TookBack}
-use Rattle.rs_places_turns.specs.Visits.{AreConnectionsServed, Place, ServedSoFar, Visit}
-use Rattle.rs_places_turns.proofs.Visits.{all_given, took_more}
+use Rattle.rs_places_steps.specs.Places.{IsPlaceServed, left_at}
+use Rattle.rs_places_steps.specs.Shared.{operations_of}
+use Rattle.rs_places_steps.specs.Turns.{Connections, Ending, GivesNext, TookBack}
+use Rattle.rs_places_steps.specs.Visits.{AreConnectionsServed, Place, ServedSoFar, Visit}
+use Rattle.rs_places_steps.proofs.Visits.{all_given, took_more}
 
 -- nothing was sent ahead, if nothing is pending
 no_tail : (before : Option (List Entry)) (sent tail : List Entry) (pending : List Operation) → Sends before tail (Some sent) → operations_of tail ≡ pending → pending ≡ [] → before ≡ Some sent

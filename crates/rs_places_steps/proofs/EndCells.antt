@@ -5,7 +5,7 @@ use mathlib.Core.Option.{some, some-ne-none}
 use lib.ListN.{get_elem?}
 use Rattle.crossbeam_queue.specs.Fifo.{Pushes, Pops, Forks}
 use Rattle.crossbeam_queue.proofs.Lists.{at_set, at_snoc}
-use Rattle.rs_places_steps.specs.Ends.{IsEndCell, Knows}
+use Rattle.rs_places_steps.specs.EndCell.{IsEndCell, KnowsClient}
 
 module _ {X B : Type 0} (begun : X → B) where
   at_end : (l : List (Option B)) (a b : Option B) (j : ℕ) → get_elem? l j ≢ some b → get_elem? (l ++ a ∷ []) j ≡ some b → j ≡ length l
@@ -26,7 +26,7 @@ module _ {X B : Type 0} (begun : X → B) where
     owner = 0;
     client = None;
     lies = tt;
-    known = each_set (Knows 0 None) (None ∷ []) 0 None (record { same = refl; alone = λ _. refl }) (λ j u other e. absurd (other (at_end [] None u j (λ x. some-ne-none u (sym x)) e)));
+    known = each_set (KnowsClient 0 None) (None ∷ []) 0 None (record { same = refl; alone = λ _. refl }) (λ j u other e. absurd (other (at_end [] None u j (λ x. some-ne-none u (sym x)) e)));
   }
 
   no_client : (c : B) → None ≢ Some c
@@ -53,7 +53,7 @@ module _ {X B : Type 0} (begun : X → B) where
           owner = h.owner;
           client = c;
           lies = all_snoc (λ coming. c ≡ Some (begun coming)) items x before refl;
-          known = each_set (Knows h.owner c) views port c (record { same = refl; alone = λ e. absurd (no_client (begun x) (sym e)) })
+          known = each_set (KnowsClient h.owner c) views port c (record { same = refl; alone = λ e. absurd (no_client (begun x) (sym e)) })
               (λ j u other e. absurd (other ((h.known j u e).alone is ∙ sym (own.alone is))));
         },
         refl,
@@ -66,7 +66,7 @@ module _ {X B : Type 0} (begun : X → B) where
       owner = h.owner;
       client = h.client;
       lies = h.lies.1;
-      known = each_set (Knows h.owner h.client) views port v (h.known port v at) (λ j u other e. h.known j u e);
+      known = each_set (KnowsClient h.owner h.client) views port v (h.known port v at) (λ j u other e. h.known j u e);
     },
     (refl, (h.known port v at).same ∙ h.lies.0),
   )
@@ -78,7 +78,7 @@ module _ {X B : Type 0} (begun : X → B) where
       owner = h.owner;
       client = h.client;
       lies = all_snoc (λ coming. h.client ≡ Some (begun coming)) items x h.lies (sym (h.known port v at).same ∙ is);
-      known = each_set (Knows h.owner h.client) views port v (h.known port v at) (λ j u other e. h.known j u e);
+      known = each_set (KnowsClient h.owner h.client) views port v (h.known port v at) (λ j u other e. h.known j u e);
     },
     refl,
   )
@@ -87,7 +87,7 @@ module _ {X B : Type 0} (begun : X → B) where
   shares port v c is items views h at =
       let vs : List (Option B) = set views port v in
       let own = h.known port v at in
-      let F : ℕ → Option B → Type 0 = Knows h.owner h.client in
+      let F : ℕ → Option B → Type 0 = KnowsClient h.owner h.client in
       let old : Each F vs = each_set F views port v own (λ j u other e. h.known j u e) in
       record {
         owner = h.owner;

@@ -6,7 +6,7 @@ use denote.Struct.Declared.{shape}
 use Rattle.atomic_table.proofs.shared.Seat.TheSendSync as pass
 use Rattle.core.proofs.result.Result.TheSendSync as result
 use Rattle.crossbeam_queue.proofs.array_queue.Slotted.TheSendSync as queue
-use Rattle.rs_places_turns.specs.declared.turn.Turn as Turn
+use Rattle.rs_places_steps.specs.declared.turn.Turn as Turn
 use Rattle.rs_server.proofs.connection.Served.TheSendSync as served_as
 use Rattle.rs_server.proofs.counted.Counted.TheSendSync as counted
 use Rattle.rs_server.proofs.counted_gate.CountedGate.TheSendSync as counted_gate
@@ -36,8 +36,8 @@ use Rattle.rs_places_steps.specs.contracts.stages.ServedClient as ServedClient
 use Rattle.rs_places_steps.specs.contracts.stages.ServedClient.TheInside as InServed
 use Rattle.rs_places_steps.specs.contracts.stages.Stage as Stage
 use Rattle.rs_places_steps.specs.contracts.task.Task as Task
-use Rattle.rs_places_turns.specs.declared.gates.LineGate as LineGate
-use Rattle.rs_places_turns.specs.declared.gates.StoreGate as StoreGate
+use Rattle.rs_places_steps.specs.declared.gates.LineGate as LineGate
+use Rattle.rs_places_steps.specs.declared.gates.StoreGate as StoreGate
 
 u64_send : IsSend u64
 u64_send = search sendable

@@ -19,13 +19,13 @@ use Rattle.rs_server.specs.declared.serving.Serving.{Serving}
 use Rattle.rs_server.specs.declared.writing.ServeFault.{ServeFault}
 use Rattle.rs_server.specs.declared.writing.ServeFault.TheVariants.{NoMemory}
 use Rattle.rs_server.proofs.Goings.{none_served}
-use Rattle.rs_places_turns.specs.Visits.{IsConnectionServed, Place, ServedSoFar, Visit, next_number, place_at, transfer_of}
-use Rattle.rs_places_turns.specs.Ended.{HasEnded}
-use Rattle.rs_places_turns.specs.Shared.{HandsOn, Knows, SharedValue, operations_of}
-use Rattle.rs_places_turns.specs.Turns.{Connections, Ending, GivesNext, IsOut, Streams, TakesBack}
-use Rattle.rs_places_turns.proofs.HandedBack.{has_ended}
-use Rattle.rs_places_turns.proofs.ServedAt.{seen_as_shared, served_at}
-use Rattle.rs_places_turns.proofs.Visits.{ServesOne, served_more}
+use Rattle.rs_places_steps.specs.Visits.{IsConnectionServed, Place, ServedSoFar, Visit, next_number, place_at, transfer_of}
+use Rattle.rs_places_steps.specs.Ended.{HasEnded}
+use Rattle.rs_places_steps.specs.Shared.{HandsOn, Knows, SharedValue, operations_of}
+use Rattle.rs_places_steps.specs.Turns.{Connections, Ending, GivesNext, IsOut, Streams, TakesBack}
+use Rattle.rs_places_steps.proofs.HandedBack.{has_ended}
+use Rattle.rs_places_steps.proofs.ServedAt.{seen_as_shared, served_at}
+use Rattle.rs_places_steps.proofs.Visits.{ServesOne, served_more}
 use Rattle.rs_places_steps.specs.Steps.{IsBeingServed, WasRead, WasServed, counted_view}
 
 abbrev streams : Option (List ℕ) → Option (List ℕ) → Option (ℕ → ℕ) → Streams

@@ -1,7 +1,7 @@
 -- What a client began with.
-use Rattle.rs_places_turns.specs.Shared.{SharedValue}
-use Rattle.rs_places_turns.specs.Turns.{Connections}
-use Rattle.rs_places_turns.specs.Visits.{Place, place_at}
+use Rattle.rs_places_steps.specs.Shared.{SharedValue}
+use Rattle.rs_places_steps.specs.Turns.{Connections}
+use Rattle.rs_places_steps.specs.Visits.{Place, place_at}
 use Rattle.rs_places_steps.specs.declared.begun.Begun.{Begun}
 
 -- the place of the client that began so, by what contracts see of its turn and of its gate

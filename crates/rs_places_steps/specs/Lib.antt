@@ -1,4 +1,11 @@
 pub mod Begins
-pub mod Ends
+pub mod EndCell
+pub mod Ended
+pub mod Places
+pub mod Serving
+pub mod Shared
 pub mod Stages
 pub mod Steps
+pub mod Turns
+pub mod Visits
+pub mod Within

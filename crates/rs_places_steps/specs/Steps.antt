@@ -10,8 +10,8 @@ use Rattle.rs_server.specs.declared.connection.Served.{Served}
 use Rattle.rs_server.specs.declared.counted_gate.CountedGate.{CountedGate}
 use Rattle.rs_server.specs.declared.serving.Serving.{Serving}
 use Rattle.rs_server.specs.declared.writing.ServeFault.{ServeFault}
-use Rattle.rs_places_turns.specs.Visits.{Place, ServedSoFar, transfer_of}
-use Rattle.rs_places_turns.specs.Turns.{Connections, GivesNext, Streams}
+use Rattle.rs_places_steps.specs.Visits.{Place, ServedSoFar, transfer_of}
+use Rattle.rs_places_steps.specs.Turns.{Connections, GivesNext, Streams}
 
 -- what contracts see of a client's gate that counts what it refuses
 abbrev pub counted_view : {G : Type 0} → (G → List Entry → Type 0) → (G → Mark) → (G → List Operation) → CountedGate G → GateView

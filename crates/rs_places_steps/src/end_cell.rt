@@ -3,14 +3,15 @@
 ghost use Rattle.std.specs.Prelude.{◌≡◌, None, Some, IfOk, IfSome};
 ghost use Rattle.std.specs.Arc.{arc_value};
 ghost use Rattle.crossbeam_queue.specs.Passes.{view, IsPassOf};
-ghost use Rattle.rs_places_turns.specs.Visits.{place_at};
+ghost use Rattle.rs_places_steps.specs.Visits.{place_at};
 ghost use Rattle.rs_places_steps.specs.Begins.{place_of};
 
 use crate::begun::Begun;
+use crate::gates::LineGate;
 use crate::stages::DoneClient;
+use crate::turn::Turn;
 use crossbeam_queue::protocol::{Outcome, Protocol, Split};
 use crossbeam_queue::{Pass, RuledArrayQueue};
-use rs_places_turns::{LineGate, Turn};
 use std::alloc::{AllocError, Global};
 use std::sync::Arc;
 
@@ -26,7 +27,7 @@ pub(crate) struct EndRule;
 
 impl<T: Turn + Drop, G: LineGate + Drop> Protocol<Coming<T, G>, Option<Begun<T, G>>> for EndRule {
     ghost use Rattle.std.specs.Prelude.{None};
-    ghost use Rattle.rs_places_steps.specs.Ends.{IsEndCell, begun_in};
+    ghost use Rattle.rs_places_steps.specs.EndCell.{IsEndCell, begun_in};
 
     ghost holds = { IsEndCell begun_in };
 
@@ -38,7 +39,7 @@ pub(crate) struct Say;
 
 impl<T: Turn + Drop, G: LineGate + Drop> Outcome<Coming<T, G>, Option<Begun<T, G>>> for Say {
     ghost use Rattle.std.specs.Prelude.{◌≡◌, Some};
-    ghost use Rattle.rs_places_steps.specs.Ends.{begun_in};
+    ghost use Rattle.rs_places_steps.specs.EndCell.{begun_in};
 
     ghost then = { λ v x w. w ≡ Some (begun_in x) };
 }
@@ -48,7 +49,7 @@ pub(crate) struct Take;
 
 impl<T: Turn + Drop, G: LineGate + Drop> Outcome<Coming<T, G>, Option<Begun<T, G>>> for Take {
     ghost use Rattle.std.specs.Prelude.{◌≡◌, Some};
-    ghost use Rattle.rs_places_steps.specs.Ends.{begun_in};
+    ghost use Rattle.rs_places_steps.specs.EndCell.{begun_in};
 
     ghost then = { λ v x w. (w ≡ v) × (v ≡ Some (begun_in x)) };
 }

@@ -2,17 +2,17 @@
 
 ghost use Rattle.std.specs.Prelude.{◌≡◌, ◌≤◌, [], length, map, vec_capacity, IfOk};
 ghost use Rattle.std.specs.List.{AllZip};
-ghost use Rattle.rs_places_turns.specs.Places.{IsPlaceServed, left_at, places_of};
-ghost use Rattle.rs_places_turns.specs.Visits.{place_at};
+ghost use Rattle.rs_places_steps.specs.Places.{IsPlaceServed, left_at, places_of};
+ghost use Rattle.rs_places_steps.specs.Visits.{place_at};
 ghost use Rattle.rs_places_steps.specs.Begins.{place_of};
 
 use crate::end_cell::{ClientEnd, client_ends};
+use crate::fault::StoreFault;
+use crate::gates::{FreeGate, LineGate, StoreGate};
 use crate::stages::FreeClient;
 use crate::task::Task;
+use crate::turn::{FreeTurn, PlaceEnd, PlacesEnd, Turn};
 use rs_places_pool::{Runner, Watch};
-use rs_places_turns::{
-    FreeGate, FreeTurn, LineGate, PlaceEnd, PlacesEnd, StoreFault, StoreGate, Turn,
-};
 use std::alloc::{AllocError, Global};
 use std::sync::Wait;
 use std::thread::{Threads, yield_now};

@@ -5,7 +5,8 @@
 mod steps;
 
 use crate::begun::Begun;
-use rs_places_turns::{Connection, LineGate, Turn};
+use crate::gates::LineGate;
+use crate::turn::{Connection, Turn};
 use rs_server::{Counted, CountedGate, ServeFault, Served, Serving};
 use rs_version::Told;
 use std::marker::Model;
@@ -26,7 +27,7 @@ impl<T: Turn, G: LineGate> Model for FreeClient<T, G> {
 
     ghost view = { λ c. c.begun };
 
-    ghost use Rattle.rs_places_turns.specs.Visits.{ServedSoFar, place_at};
+    ghost use Rattle.rs_places_steps.specs.Visits.{ServedSoFar, place_at};
     ghost use Rattle.rs_places_steps.specs.Begins.{place_of};
 
     ghost invariant = { λ c. ServedSoFar G.Name.limit (place_of T.connections G.shared c.begun) c.number (place_at (T.connections c.turn) (G.shared c.gate)) };
@@ -149,7 +150,7 @@ impl<T: Turn, G: LineGate> Model for DoneClient<T, G> {
 
     ghost view = { λ c. c.begun };
 
-    ghost use Rattle.rs_places_turns.specs.Places.{IsPlaceServed, left_at};
+    ghost use Rattle.rs_places_steps.specs.Places.{IsPlaceServed, left_at};
     ghost use Rattle.rs_places_steps.specs.Begins.{place_of};
 
     ghost invariant = { λ c. IsPlaceServed G.Name.limit (place_of T.connections G.shared c.begun)

@@ -4,9 +4,10 @@ ghost use Rattle.std.specs.Prelude.{◌≡◌};
 ghost use Rattle.rs_places_steps.specs.Stages.{begun_of};
 
 use crate::end_cell::ClientEnd;
+use crate::gates::LineGate;
 use crate::stages::{FreeClient, Stage};
+use crate::turn::Turn;
 use rs_places_pool::{Client, Watch};
-use rs_places_turns::{LineGate, Turn};
 use std::alloc::Global;
 use std::sync::Wait;
 

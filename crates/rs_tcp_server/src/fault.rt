@@ -1,6 +1,6 @@
 //! Why no client is served.
 
-use rs_places_turns::StoreFault;
+use rs_places_steps::StoreFault;
 use std::alloc::AllocError;
 use std::io;
 use std::io::ErrorKind;
@@ -15,6 +15,9 @@ pub enum ListenFault {
     /// The address for metrics is not an address, is in use, or may not be bound.
     #[error("the address for metrics cannot be listened on: {0}")]
     Metrics(io::Error),
+    /// More messages are given than topics may hold one.
+    #[error("more topics are given than the store may hold; raise the limit")]
+    TooManyTopics,
     /// Memory was refused.
     #[error("out of memory")]
     NoMemory,
@@ -44,6 +47,7 @@ impl From<StoreFault> for ListenFault {
     fn from(fault: StoreFault) -> ListenFault {
         match fault {
             StoreFault::NoMemory => ListenFault::NoMemory,
+            StoreFault::TooManyTopics => ListenFault::TooManyTopics,
             StoreFault::NoThread => ListenFault::NoThread,
         }
     }

@@ -2,11 +2,11 @@
 //!
 //! [`Server::bind`] binds an address and makes an empty store, [`Server::address`] tells the address, and [`Server::run`] serves
 //! clients until so many have connected. Each client has a line of its own to the store's writer, which has a thread. With as many clients
-//! as places, each client has a thread too. With more, each place has two, and `rs_tcp_watch` tells which clients have something to do. A
-//! connection may have a limit for how long it is idle, and the log of the handle has a line when each begins and ends, and when the store is
-//! full or lacks memory. [`Server::with_metrics`] lets one more thread tell what is counted meanwhile (`rs_metrics`).
+//! as places, each client has a thread too. With more, each place has two, and a `SocketWatch` (`rs_tcp_sockets`) tells which clients have
+//! something to do. A connection may have a limit for how long it is idle, and the log of the handle has a line when each begins and ends,
+//! and when the store is full or lacks memory. [`Server::with_metrics`] lets one more thread tell what is counted meanwhile (`rs_metrics`).
 //!
-//! The connections of a client are a [`Turn`](rs_places_turns::Turn): [`ListenTurn`] takes the clients of a listener that all turns share, and
+//! The connections of a client are a [`Turn`](rs_places_steps::Turn): [`ListenTurn`] takes the clients of a listener that all turns share, and
 //! closes each connection in its way. The lines of a full store are those of [`FullLog`].
 //!
 //! How clients are served is `run_places` of `rs_places_steps`, and the run of the store is `run_store` of `rs_places`. The contracts of this

@@ -7,7 +7,7 @@ use crate::turn::{ClientWord, ListenTurn};
 use log::Log;
 use rs_message::LineCount;
 use rs_metrics::{Meter, Metrics};
-use rs_places_turns::FreeTurn;
+use rs_places_steps::FreeTurn;
 use rs_tcp_sockets::Listener;
 use std::alloc::{AllocError, Global};
 use std::sync::Arc;

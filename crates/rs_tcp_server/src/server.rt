@@ -1,10 +1,10 @@
 //! The server.
 
-ghost use Rattle.std.specs.Prelude.{◌≡◌, ◌+◌, ◌<◌, ◌≤◌, ℕ, List, IfOk, length};
+ghost use Rattle.std.specs.Prelude.{◌≡◌, ◌+◌, ◌<◌, ◌≤◌, ℕ, List, [], IfOk, length};
 ghost use Rattle.rs_message.specs.declared.entry.TheConstants.{MAX_LINES};
 ghost use Rattle.rs_intake.specs.declared.cause.Cause.{Cause};
 ghost use Rattle.rs_places.specs.Store.{IsStoreRun};
-ghost use Rattle.rs_places_turns.specs.Turns.{Connections};
+ghost use Rattle.rs_places_steps.specs.Turns.{Connections};
 
 use crate::fault::ListenFault;
 use crate::full_log::FullLog;
@@ -19,10 +19,9 @@ use rs_metrics::{Limits, share};
 use rs_metrics_server::MetricsServer;
 use rs_places::{StoreEnd, run_store};
 use rs_places_pool::Runner;
-use rs_places_turns::FreeTurn;
+use rs_places_steps::FreeTurn;
 use rs_store::TopicLimit;
-use rs_tcp_sockets::{Listener, descriptor_limit, waiting_limit};
-use rs_tcp_watch::SocketWatch;
+use rs_tcp_sockets::{Listener, SocketWatch, descriptor_limit, waiting_limit};
 use rs_version::Blank;
 use std::alloc::{AllocError, Global};
 use std::net::{Net, TcpListener, TcpStream};
@@ -221,7 +220,7 @@ impl Server {
         rt: H,
     ) -> Result<Summary, ListenFault>
         ensures run { IfOk result (λ summary. (before : List Connections) × (after : List Connections) × (version : ℕ) × (cause : Cause)
-            × IsStoreRun self.blank.limit summary.clients before after version summary.changes cause) }
+            × IsStoreRun self.blank.limit summary.clients [] before after version summary.changes cause) }
         ensures alone { IfOk result (λ summary. self.clients ≤ self.places → summary.clients ≡ self.places) }
         ensures more { IfOk result (λ summary. self.places < self.clients
             → (self.places < summary.clients) × (summary.clients ≤ self.clients)) }
@@ -317,9 +316,9 @@ fn serve<H: Clock + Log + Threads + Wait + Copy + Send + Sync + 'static>(
 ) -> Result<StoreEnd<ListenTurn<H>>, ListenFault>
     requires { queue.places ≡ length turns.items }
     ensures { IfOk result (λ end. (before : List Connections) × (after : List Connections)
-        × IsStoreRun blank.limit queue.places before after end.version end.changes end.cause) }
+        × IsStoreRun blank.limit queue.places [] before after end.version end.changes end.cause) }
 {
-    let end = run_store(rt, alloc, blank, queue, turns, runner);
+    let end = run_store(rt, alloc, blank, Vec::new(alloc), queue, turns, runner);
     end_telling(&rt, telling);
     match end {
         Ok(end) => Ok(end),

@@ -1,8 +1,8 @@
 //! The connections of one client.
 
 ghost use Rattle.rs_server.specs.Counts.{failures_of, inner_of};
-ghost use Rattle.rs_places_turns.specs.Ended.{ending_of};
-ghost use Rattle.rs_places_turns.specs.Turns.{TakesBack, none_given};
+ghost use Rattle.rs_places_steps.specs.Ended.{ending_of};
+ghost use Rattle.rs_places_steps.specs.Turns.{TakesBack, none_given};
 
 use crate::close_reason::CloseReason;
 use crate::full_log::FullLog;
@@ -10,7 +10,7 @@ use crate::packet_output::PacketOutput;
 use crate::refused::Refused;
 use log::{Log, info};
 use rs_metrics::Meter;
-use rs_places_turns::{Connection, EndedConnection, Turn};
+use rs_places_steps::{Connection, EndedConnection, Turn};
 use rs_server::Tally;
 use rs_tcp_sockets::{Accepted, FromClient, Listener, SystemClock, ToClient, abandon, close};
 use rs_version::{StoreName, Told};

@@ -18,8 +18,8 @@ abbrev pub LeftNoneWaiting : {R W : Type 0} → ReadHalf R W → Type 0
 LeftNoneWaiting half = (view half.pass).written_out ≡ true
 
 -- why the half failed to write out, if no read has told it yet
-abbrev pub fault_of : {R W : Type 0} → ReadHalf R W → Option Error
-fault_of half = half.fault
+abbrev pub untold_fault_of : {R W : Type 0} → ReadHalf R W → Option Error
+untold_fault_of half = half.fault
 
 -- what was read or written is counted, up to the greatest number
 abbrev pub Counts : {E : Type 0} → ℕ → Result ℕ E → ℕ → Type 0

@@ -1,8 +1,10 @@
 pub mod Clock
+pub mod Descriptors
+pub mod Epoll
+pub mod FreeClients
 pub mod Gathered
-pub mod Sharing
 pub mod Halves
 pub mod Patience
 pub mod Polling
-pub mod Descriptors
-pub mod Epoll
+pub mod Sharing
+pub mod Watched

@@ -88,7 +88,7 @@ impl<W: Write + Drop> WriteHalf<W> {
 
 impl<R, W: Write + Drop> ReadHalf<R, W> {
     ghost use Rattle.std.specs.Prelude.{Some, IfErr, OnOk};
-    ghost use Rattle.rs_tcp_sockets.specs.Halves.{LeftNoneWaiting, fault_of};
+    ghost use Rattle.rs_tcp_sockets.specs.Halves.{LeftNoneWaiting, untold_fault_of};
 
     /// How many bytes were read.
     pub fn count(&self) -> u64
@@ -109,7 +109,7 @@ impl<R, W: Write + Drop> ReadHalf<R, W> {
         ensures inner { self.new.inner ≡ self.old.inner }
         ensures count { self.new.count ≡ self.old.count }
         ensures none_waits { OnOk result (LeftNoneWaiting self.new) }
-        ensures fault { IfErr result (λ error. fault_of self.new ≡ Some error) }
+        ensures fault { IfErr result (λ error. untold_fault_of self.new ≡ Some error) }
     {
         let written = self.send();
         if let Err(error) = written {
@@ -149,7 +149,7 @@ impl<R: Read, W: Write + Drop> Read for ReadHalf<R, W> {
     ghost use Rattle.std.specs.Io.{ReadsAtMost};
     ghost use Rattle.std.specs.Io.KnownBytes.{ReadConsumes};
     ghost use Rattle.std.specs.Prelude.{true, Err, IfSome, IsErr, MatchBool, OnOk};
-    ghost use Rattle.rs_tcp_sockets.specs.Halves.{Counts, unread_of, LeftNoneWaiting, fault_of};
+    ghost use Rattle.rs_tcp_sockets.specs.Halves.{Counts, unread_of, LeftNoneWaiting, untold_fault_of};
 
     ghost remaining = { unread_of R.remaining };
 
@@ -159,7 +159,7 @@ impl<R: Read, W: Write + Drop> Read for ReadHalf<R, W> {
         ensures none_waits { OnOk result (LeftNoneWaiting self.new) }
         ensures counted { Counts self.old.count result self.new.count }
         ensures unwritten { MatchBool self.new.unwritten (IsErr result × (self.new.inner ≡ self.old.inner)) (LeftNoneWaiting self.new) }
-        ensures fault { IfSome (fault_of self.old) (λ error. (result ≡ Err error) × (self.new.unwritten ≡ true)) }
+        ensures fault { IfSome (untold_fault_of self.old) (λ error. (result ≡ Err error) × (self.new.unwritten ≡ true)) }
     {
         if let Some(error) = self.fault.take() {
             self.unwritten = true;

@@ -1,7 +1,10 @@
+pub mod First
 pub mod HistoryRule
+pub mod Holding
 pub mod Memory
 pub mod Origins
 pub mod Prefixes
 pub mod Sent
+pub mod Space
 pub mod VersionRule
 pub mod WriterState

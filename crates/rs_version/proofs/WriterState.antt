@@ -1,5 +1,5 @@
 -- What the writer's invariant says, and that each step of the writer keeps it.
-use Rattle.std.proofs.Common.{◌≡◌, ℕ, ◌<◌, ◌≤◌, List, [], ◌∷◌, ◌++◌, length, fold, ◌⊎◌, Option, Some, None, inl, inr, ⊎_elim, subst, refl, sym, ◌∙◌, ap, arith, length-append}
+use Rattle.std.proofs.Common.{◌≡◌, ℕ, ◌<◌, ◌≤◌, List, [], ◌∷◌, ◌++◌, length, fold, ◌⊎◌, Option, Some, None, Result, Ok, Err, OnOk, IfErr, inl, inr, ⊎_elim, subst, refl, sym, ◌∙◌, ap, arith, length-append}
 use Rattle.std.specs.List.Sorted.{IsStrictlySortedBy}
 use Rattle.std.specs.Map.{keys_of}
 use Rattle.std.proofs.lemmas.List.{append-nil}
@@ -24,8 +24,13 @@ use Rattle.rs_version.specs.declared.fault.PutFault.TheVariants.{Full, Stale, No
 use Rattle.rs_version.specs.Copies.{listed, shown, steps_of}
 use Rattle.rs_version.specs.Receipts.{StandsAt}
 use Rattle.rs_version.specs.VersionRule.{Follows, IsSound, applied, state}
-use Rattle.rs_version.specs.Writer.{Declines, IsReady, IsWriting, Precedes, Refuses, StepsFor, Written, holds_back, kept_content, kept_of, released, shows}
+use Rattle.rs_version.specs.Writer.{Declines, Defers, IsReady, IsWriting, Precedes, Refuses, StepsFor, Written, holds_back, kept_content, kept_of, released, shows}
 use Rattle.rs_version.proofs.VersionRule.{goes_on}
+
+-- what is held is one entry or none
+pub unlisted : {A : Type 0} (o : Option A) → listed o ≡ [] → o ≡ None
+unlisted None is = refl
+unlisted (Some x) is = absurd (cc (is))
 
 -- if nothing is held, the kept list is the published one
 nothing_held : (history : Book) (limit memory : ℕ) (copies : Copies) (list : List Entry) (calm : ℕ) (held : Option Entry) → IsWriting history limit memory copies list calm held → held ≡ None → list ≡ (shown copies).prefix.log
@@ -147,7 +152,7 @@ declines_refuses limit w w' e Full is h = (let P : List Entry → Type 0 = λ l.
 declines_refuses limit w w' e NoMemory is h = absurd h
 declines_refuses limit w w' e Held is h = absurd h
 
-pub kept_refuses : (limit : ℕ) (w w' : Written) (e : Entry) → (w.held ≡ None → ⊥) → w' ≡ w → Refuses limit w e NoMemory w'
+pub kept_refuses : (limit : ℕ) (w w' : Written) (e : Entry) → (w.held ≡ [] → ⊥) → w' ≡ w → Refuses limit w e NoMemory w'
 kept_refuses limit w w' e some is = inr (inr (some, is))
 
 -- the Sweep before an entry may come next
@@ -180,14 +185,14 @@ swept_refuses limit w w' w'' e sweep is p left =
           left,
     ))
 
-ready_log : (limit : ℕ) (w w' : Written) (e : Entry) → IsReady limit w e w' → (w'.held ≡ None) × IsLegal limit (extended w'.published e)
+ready_log : (limit : ℕ) (w w' : Written) (e : Entry) → IsReady limit w e w' → (w'.held ≡ []) × IsLegal limit (extended w'.published e)
 ready_log limit w w' e (inl r) = (ap (λ (z : Written). z.held) r.1, (let P : List Entry → Type 0 = λ l. IsLegal limit (extended l e) in subst P (sym (released_log w w' r.1)) r.0))
 ready_log limit w w' e (inr r) = (
   ap (λ (z : Written). z.held) r.1,
   (let P : List Entry → Type 0 = λ l. IsLegal limit (extended l e) in subst P (sym (ap (λ (z : Written). z.published) r.1)) r.0.legal),
 )
 
-pub ready_free : (limit : ℕ) (w w' : Written) (e : Entry) → IsReady limit w e w' → w'.held ≡ None
+pub ready_free : (limit : ℕ) (w w' : Written) (e : Entry) → IsReady limit w e w' → w'.held ≡ []
 ready_free limit w w' e r = (ready_log limit w w' e r).0
 
 pub ready_legal : (limit : ℕ) (w w' : Written) (e : Entry) → IsReady limit w e w' → IsLegal limit (extended w'.published e)
@@ -205,8 +210,23 @@ pub ready_adds : (limit : ℕ) (w w' w'' : Written) (e : Entry) → IsReady limi
 ready_adds limit w w' w'' e (inl r) is = inl (r.0, is ∙ ap (λ (l : List Entry). shows (extended l e)) (released_log w w' r.1))
 ready_adds limit w w' w'' e (inr r) is = inr (r.0, is ∙ ap (λ (l : List Entry). shows (extended l e)) (ap (λ (z : Written). z.published) r.1))
 
+pub ready_defers : (limit : ℕ) (w w' w'' : Written) (e : Entry) (f : PutFault) → IsReady limit w e w' → Defers w' e f w'' → Refuses limit w e f w''
+ready_defers limit w w' w'' e Stale r d = absurd d
+ready_defers limit w w' w'' e Full r d = absurd d
+ready_defers limit w w' w'' e NoMemory r d = ready_refuses limit w w' w'' e r d
+ready_defers limit w w' w'' e Held r d = ready_holds limit w w' w'' e r d
+
+-- what `add` leaves is what `put` leaves
+pub ready_added : {T E : Type 0} (r : Result T E) (limit : ℕ) (w w' w'' : Written) (e : Entry) → IsReady limit w e w' → OnOk r (w'' ≡ shows (extended w'.published e)) → OnOk r (Adds limit (kept_of w) e (λ list. w'' ≡ shows list))
+ready_added (Ok t) limit w w' w'' e ready is = ready_adds limit w w' w'' e ready is
+ready_added (Err f) limit w w' w'' e ready is = tt
+
+pub ready_deferred : {T : Type 0} (r : Result T PutFault) (limit : ℕ) (w w' w'' : Written) (e : Entry) → IsReady limit w e w' → IfErr r (λ f. Defers w' e f w'') → IfErr r (λ f. Refuses limit w e f w'')
+ready_deferred (Ok t) limit w w' w'' e ready d = tt
+ready_deferred (Err f) limit w w' w'' e ready d = ready_defers limit w w' w'' e f ready d
+
 -- what was held is the last entry of the list that is published then
-pub stands_last : (w w' : Written) (e : Entry) → w.held ≡ Some e → w' ≡ released w → StandsAt e (length w'.published) w'.published
+pub stands_last : (w w' : Written) (e : Entry) → w.held ≡ e ∷ [] → w' ≡ released w → StandsAt e (length w'.published) w'.published
 stands_last w w' e held is =
-    let log : w'.published ≡ w.published ++ e ∷ [] = ap (λ z. z.published) is ∙ ap (λ h. w.published ++ listed h) held in
+    let log : w'.published ≡ w.published ++ e ∷ [] = ap (λ z. z.published) is ∙ ap (λ h. w.published ++ h) held in
     record { before = w.published; after = []; whole = log; counted = ap length log ∙ length-append w.published (e ∷ []) }

@@ -3,7 +3,9 @@ pub mod Receipts
 pub mod Catalogues
 pub mod Codes
 pub mod Copies
+pub mod First
 pub mod VersionRule
 pub mod HistoryRule
+pub mod Space
 pub mod Values
 pub mod Writer

@@ -1,5 +1,6 @@
 -- What the writer has published and what it holds.
-use Rattle.std.specs.Prelude.{Bool, true, false, ℕ, ◌≡◌, ◌≢◌, ◌≤◌, ◌++◌, ◌∷◌, ◌⊎◌, [], List, Option, Some, None}
+use Rattle.std.specs.Prelude.{Bool, true, false, ℕ, ◌≡◌, ◌≢◌, ◌≤◌, ◌++◌, ◌∷◌, ◌⊎◌, [], List, Option, Some, None, length}
+use mathlib.Core.List.{IsPrefix}
 use Rattle.logbook.specs.Pages.{Book}
 use Rattle.rs_message.specs.declared.entry.Entry.{Entry}
 use Rattle.rs_message.specs.declared.entry.Operation.{Operation}
@@ -20,17 +21,22 @@ use Rattle.rs_version.specs.Catalogues.{content_of}
 use Rattle.rs_version.specs.VersionRule.{IsSound, Follows}
 use Rattle.rs_version.specs.Copies.{listed, shown, steps_of}
 
+-- what is published, and what is kept behind it and not published yet
 pub record Written : Type 0 where
   pub published : List Entry
-  pub held : Option Entry
+  pub held : List Entry
 
--- the kept list: the published list, followed by the held entry, if there is one
+-- the kept list: the published list, followed by what is held
 abbrev pub kept_of : Written → List Entry
-kept_of w = w.published ++ listed w.held
+kept_of w = w.published ++ w.held
 
 -- all of it published
 abbrev pub released : Written → Written
-released w = record { published = kept_of w; held = None }
+released w = record { published = kept_of w; held = [] }
+
+-- some of what was held is published, from the first on, and the rest is held still
+abbrev pub IsReleasedInPart : Written → Written → Type 0
+IsReleasedInPart w w' = (kept_of w' ≡ kept_of w) × IsPrefix w.published w'.published
 
 -- the steps that are not published are those of the held entry
 abbrev pub StepsFor : CatalogueCopy → Option Entry → List CopyStep → Type 0
@@ -61,11 +67,11 @@ takes_last (Sweep moment) = false
 
 -- the list published, and nothing held
 abbrev pub shows : List Entry → Written
-shows list = record { published = list; held = None }
+shows list = record { published = list; held = [] }
 
 -- the list published, and the entry held
 abbrev pub holds_back : List Entry → Entry → Written
-holds_back list e = record { published = list; held = Some e }
+holds_back list e = record { published = list; held = e ∷ [] }
 
 -- the Sweep is the one that comes before the entry
 abbrev pub Precedes : ℕ → List Entry → Entry → Entry → Type 0
@@ -100,6 +106,49 @@ abbrev pub Refuses : ℕ → Written → Entry → PutFault → Written → Type
 Refuses limit w e fault.Stale w' = IsDeclined limit w e refusal.Stale w'
 Refuses limit w e fault.Full w' = IsDeclined limit w e refusal.Full w'
 Refuses limit w e fault.NoMemory w' = (IsLegal limit (extended (kept_of w) e) × (w' ≡ released w))
-    ⊎ ((s : NeedsSweepAfter limit (kept_of w) e) × IsSweptInPart s.message.received w w') ⊎ ((w.held ≢ None) × (w' ≡ w))
+    ⊎ ((s : NeedsSweepAfter limit (kept_of w) e) × IsSweptInPart s.message.received w w') ⊎ ((w.held ≢ []) × (w' ≡ w))
 Refuses limit w e fault.Held w' = (IsLegal limit (extended (kept_of w) e) × (w' ≡ holds_back (kept_of w) e))
     ⊎ ((s : NeedsSweepAfter limit (kept_of w) e) × (w' ≡ holds_back (cleaned s.message.received (kept_of w)) e))
+
+-- what is left if an entry that may come next behind the published list, with nothing held, is not published
+abbrev pub Defers : Written → Entry → PutFault → Written → Type 0
+Defers w e fault.Stale w' = ⊥
+Defers w e fault.Full w' = ⊥
+Defers w e fault.NoMemory w' = w' ≡ w
+Defers w e fault.Held w' = w' ≡ holds_back w.published e
+
+-- the entry is held behind this list. Nothing that was published is taken back, and some of what was held may be published
+abbrev pub IsHeldBehind : List Entry → Written → Entry → Written → Type 0
+IsHeldBehind list w e w' = (kept_of w' ≡ extended list e) × IsPrefix w.published w'.published × (w'.held ≢ [])
+
+-- The same of a writer that may hold many entries. 32: or not all that was held could be published, and nothing else changed. 33: the entry
+-- is held behind the kept list, and the Sweep that comes before it, if there is one. With at most one held entry that is what is said above
+abbrev pub RefusesOf : ℕ → Written → Entry → PutFault → Written → Type 0
+RefusesOf limit w e fault.Stale w' = IsDeclined limit w e refusal.Stale w'
+RefusesOf limit w e fault.Full w' = IsDeclined limit w e refusal.Full w'
+RefusesOf limit w e fault.NoMemory w' = (IsLegal limit (extended (kept_of w) e) × (w' ≡ released w))
+    ⊎ ((s : NeedsSweepAfter limit (kept_of w) e) × IsSweptInPart s.message.received w w') ⊎ ((w'.held ≢ []) × IsReleasedInPart w w')
+RefusesOf limit w e fault.Held w' = (IsLegal limit (extended (kept_of w) e) × IsHeldBehind (kept_of w) w e w')
+    ⊎ ((s : NeedsSweepAfter limit (kept_of w) e) × IsHeldBehind (cleaned s.message.received (kept_of w)) w e w')
+
+-- What becomes of an entry that is not put, since one before it of its job is held: it is not kept, and nothing changed; or it may come next,
+-- and is held, too
+abbrev pub PassesOver : ℕ → Written → Entry → PutFault → Written → Type 0
+PassesOver limit w e fault.Stale w' = ⊥
+PassesOver limit w e fault.Full w' = ⊥
+PassesOver limit w e fault.NoMemory w' = w' ≡ w
+PassesOver limit w e fault.Held w' = IsLegal limit (extended (kept_of w) e)
+    × (w' ≡ record { published = w.published; held = w.held ++ e ∷ [] })
+
+-- whatever a writer that holds at most one entry refuses: both say the same
+abbrev pub OneHeld : Type 0
+OneHeld = (limit : ℕ) (w w' : Written) (e : Entry) (f : PutFault) → length w.held ≤ 1 → length w'.held ≤ 1
+    → RefusesOf limit w e f w' → Refuses limit w e f w'
+
+-- a writer that was made ready for these entries is ready for them, or for none
+abbrev pub IsReadyFor : List Entry → List Entry → Type 0
+IsReadyFor ready entries = (ready ≡ []) ⊎ (ready ≡ entries)
+
+-- the entry is the next of those for which a writer was made ready, if there are any
+abbrev pub IsNextOf : List Entry → Entry → Type 0
+IsNextOf ready entry = (ready ≡ []) ⊎ ((rest : List Entry) × (ready ≡ entry ∷ rest))

@@ -1,21 +1,26 @@
 //! A store before it has a name.
 
-ghost use Rattle.std.specs.Prelude.{◌≡◌, ◌<◌, ◌≤◌, [], drop, Some, None, All, IfOk, vec_len};
+ghost use Rattle.std.specs.Prelude.{◌≡◌, ◌<◌, ◌≤◌, [], drop, length, Some, None, All, IfErr, IfOk, vec_len};
 ghost use Rattle.left_right.specs.Sides.{view};
 ghost use Rattle.rs_store.specs.Contents.{empty};
 ghost use Rattle.rs_store.specs.History.{Stands};
 ghost use Rattle.rs_version.specs.Catalogues.{content_of};
+ghost use Rattle.rs_version.specs.First.{first_of};
 ghost use Rattle.rs_version.specs.VersionRule.{Names, known, state};
+ghost use Rattle.rs_version.specs.Writer.{shows};
+ghost use Rattle.rs_version.specs.declared.fault.OpenFault.TheVariants.{TooManyTopics};
 
 use crate::catalogue::StoreCatalogue;
 use crate::catalogue_copy::CatalogueCopy;
 use crate::copies::{CopyWriter, inform, publish_once};
+use crate::fault::OpenFault;
+use crate::given::{put_first, teach};
 use crate::history::StoreName;
 use crate::named::{NamedList, NewHistory, WholeHistory};
 use crate::seat::Seat;
 use crate::writer::VersionWriter;
 use left_right::writer::Writer;
-use rs_message::PlaceCount;
+use rs_message::{Found, PlaceCount};
 use rs_store::{Catalogue, TopicLimit};
 use std::alloc::{AllocError, Global};
 use std::marker::Model;
@@ -154,7 +159,7 @@ impl Blank {
         rt: R,
     ) -> Result<(VersionWriter<N, R>, Vec<Seat<N>>), AllocError>
         requires { (self.history ≡ N.history) × (self.limit ≡ N.limit) }
-        ensures writer { IfOk result (λ r. r.0 ≡ record { published = []; held = None }) }
+        ensures writer { IfOk result (λ r. r.0 ≡ shows []) }
         ensures seats { IfOk result (λ r. (vec_len r.1 ≡ self.places) × All (λ s. s ≡ []) r.1.items) }
     {
         let Blank {
@@ -199,5 +204,37 @@ impl Blank {
                 Err(AllocError)
             }
         }
+    }
+
+    /// The same of a store that begins with these messages, one for each topic. Before anything else the writer puts a Set of each, as it
+    /// is and in this order, with an origin of its own place and serials from 1 on, and each seat learns it.
+    ///
+    /// # Errors
+    ///
+    /// - [`TooManyTopics`](OpenFault::TooManyTopics): more messages are given than topics may hold one.
+    /// - [`NoMemory`](OpenFault::NoMemory): memory is refused, the copies give no further reader, or the messages count more bytes than
+    ///   they may (see [`Blank::with_memory`]).
+    pub fn open_with<N: StoreName, R: Wait + Drop>(
+        self,
+        rt: R,
+        given: Vec<Found>,
+    ) -> Result<(VersionWriter<N, R>, Vec<Seat<N>>), OpenFault>
+        requires { (self.history ≡ N.history) × (self.limit ≡ N.limit) }
+        ensures writer { IfOk result (λ r. r.0 ≡ shows (first_of given.items)) }
+        ensures seats { IfOk result (λ r. (vec_len r.1 ≡ self.places) × All (λ s. s ≡ first_of given.items) r.1.items) }
+        ensures many { IfErr result (λ fault. fault ≡ TooManyTopics → self.limit < length given.items) }
+    {
+        if given.len() > self.limit.get() as usize {
+            return Err(OpenFault::TooManyTopics);
+        }
+        let Ok((mut writer, mut seats)) = self.open::<N, R>(rt) else {
+            return Err(OpenFault::NoMemory);
+        };
+        match put_first(&mut writer, given) {
+            Ok(()) => {}
+            Err(_) => return Err(OpenFault::NoMemory),
+        }
+        teach(seats.as_mut_slice(), &writer.tell());
+        Ok((writer, seats))
     }
 }

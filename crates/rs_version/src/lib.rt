@@ -6,7 +6,7 @@
 //! version ([`Version`]), to be asked without the seat. A token ([`Told`])
 //! names a published list; a seat that learned it ([`Seat::learn`]) never reads less from then on. A [`Receipt`] says at which
 //! number of the list an entry is. A type that implements [`StoreName`] ties the writer, the seats and the tokens of one store
-//! together, and [`Blank::open`] makes them.
+//! together, and [`Blank::open`] makes them. A store begins empty, or with messages that it is given ([`Blank::open_with`]).
 //!
 //! The catalogue stands in two copies. One is published while the writer changes the other, and a publish swaps them. A seat takes
 //! the messages of the published one, which is to count one more owner of its nodes, leaves, and answers from what it took. Before a
@@ -22,6 +22,7 @@ mod catalogue;
 mod catalogue_copy;
 mod copies;
 mod fault;
+mod given;
 mod history;
 mod law;
 mod named;
@@ -30,14 +31,16 @@ mod receipt;
 mod reserve;
 mod rule;
 mod seat;
+mod store_writer;
 mod version;
 mod writer;
 
 pub use blank::Blank;
-pub use fault::PutFault;
+pub use fault::{OpenFault, PutFault};
 pub use history::StoreName;
-pub use law::origin_law;
+pub use law::{one_held_law, origin_law};
 pub use receipt::{Receipt, Told};
 pub use seat::{Seat, Snapshot};
+pub use store_writer::StoreWriter;
 pub use version::Version;
 pub use writer::VersionWriter;

@@ -1,9 +1,8 @@
 //! The one writer of a store.
 
-ghost use Rattle.std.specs.Prelude.{◌≡◌, ◌≢◌, ◌≤◌, ◌∷◌, ◌⊎◌, false, nat_le, List, [], fold, length, drop, Some, None, MatchOption, MatchResult, IfOk, IfErr, IfNone, IfSome, OnErr, OnOk, OnSome};
+ghost use Rattle.std.specs.Prelude.{◌≡◌, ◌≢◌, ◌≤◌, ◌∷◌, ◌⊎◌, false, true, nat_le, List, [], fold, length, map, drop, MatchOption, MatchResult, IfOk, IfErr, IfNone, IfSome, OnErr, OnOk, OnSome};
 ghost use Rattle.std.specs.List.Sorted.{IsStrictlySortedBy};
 ghost use Rattle.std.specs.Map.{keys_of};
-ghost use Rattle.std.specs.Option.{option_map};
 ghost use mathlib.Core.List.{IsPrefix};
 ghost use Rattle.rs_message.specs.Messages.{is_sweep};
 ghost use Rattle.rs_topic.specs.Order.{topic_cmp};
@@ -15,10 +14,12 @@ ghost use Rattle.rs_store.specs.Expiring.{NoneExpiredBefore};
 ghost use Rattle.rs_message.specs.declared.entry.Entry.{Entry};
 ghost use Rattle.rs_store.specs.History.{IsLegal, Stands, extended};
 ghost use Rattle.rs_version.specs.Catalogues.{content_of};
-ghost use Rattle.rs_version.specs.Copies.{shown, steps_of};
+ghost use Rattle.rs_version.specs.Copies.{listed, shown, steps_of};
 ghost use Rattle.rs_version.specs.Receipts.{StandsAt};
 ghost use Rattle.rs_version.specs.VersionRule.{Follows, applied, state};
-ghost use Rattle.rs_version.specs.Writer.{Written, Declines, IsReady, Precedes, Refuses, holds_back, kept_of, released, shows, takes_last};
+ghost use Rattle.rs_version.specs.Space.{HasSpaceFor};
+ghost use Rattle.rs_version.specs.Writer.{Written, Declines, Defers, IsReady, Precedes, Refuses, holds_back, kept_of, released, shows, takes_last};
+ghost use Rattle.rs_version.specs.declared.fault.PutFault.TheVariants.{NoMemory};
 ghost use Rattle.rs_version.specs.declared.reserve.TheConstants.{ENOUGH_BLOCKS};
 
 use crate::catalogue::StoreCatalogue;
@@ -30,13 +31,13 @@ use crate::named::{NamedList, WholeHistory};
 use crate::receipt::{Receipt, Told};
 use crate::reserve::Reserve;
 use rs_message::{Entry, Operation, Origin};
-use rs_store::{Calm, Catalogue, Refusal, bytes_of, judge};
+use rs_store::{Calm, Catalogue, Refusal, TopicLimit, bytes_of, judge};
 use std::alloc::{AllocError, Global};
 use std::marker::Model;
 use std::sync::Wait;
 
-/// The one writer of a store. Contracts see it as the published list and the held entry, if there is one. The kept list is the
-/// published list, followed by the held entry.
+/// The one writer of a store. Contracts see it as the published list and what is held: at most one entry. The kept list is the published
+/// list, followed by the held entry.
 ///
 /// It keeps the handle `rt`, by which a publish waits for seats that still read the older copy. When it is dropped it waits until
 /// no seat reads. A held entry is dropped with it, and from then on [`Seat::answer`](crate::Seat::answer) is an error.
@@ -55,11 +56,11 @@ pub struct VersionWriter<N: StoreName, R: Wait + Drop> {
 
 impl<N: StoreName, R: Wait + Drop> Model for VersionWriter<N, R> {
     ghost use Rattle.rs_version.specs.Writer.{Written, IsWriting};
-    ghost use Rattle.rs_version.specs.Copies.{shown};
+    ghost use Rattle.rs_version.specs.Copies.{listed, shown};
 
     ghost Value = { Written };
 
-    ghost view = { λ w. record { published = (shown w.copies).prefix.log; held = w.held } };
+    ghost view = { λ w. record { published = (shown w.copies).prefix.log; held = listed w.held } };
 
     ghost invariant = { λ w. IsWriting N.history N.limit w.memory w.copies w.history w.calm w.held };
 }
@@ -190,7 +191,7 @@ impl<N: StoreName, R: Wait + Drop> VersionWriter<N, R> {
         requires history { (writer.desk.shown.value.prefix.history ≡ N.history) × (history ≡ [])
             × (writer.desk.shown.value.prefix.log ≡ []) }
         requires content { content_of writer.desk.shown.value.catalogue ≡ empty N.limit }
-        ensures { result ≡ record { published = []; held = None } }
+        ensures { result ≡ shows [] }
     {
         VersionWriter {
             rt,
@@ -208,8 +209,8 @@ impl<N: StoreName, R: Wait + Drop> VersionWriter<N, R> {
 
     /// Publishes the held entry, if there is one, and gives it back. Refused, it is held as before.
     fn release(&mut self) -> Result<Option<Entry>, AllocError>
-        ensures { MatchResult result (λ o. (o ≡ self.old.held) × (self.new ≡ released self.old))
-            (λ _. (self.old.held ≢ None) × (self.new ≡ self.old)) }
+        ensures { MatchResult result (λ o. (listed o ≡ self.old.held) × (self.new ≡ released self.old))
+            (λ _. (self.old.held ≢ []) × (self.new ≡ self.old)) }
     {
         let Some(_held) = &self.held else {
             return Ok(None);
@@ -219,8 +220,12 @@ impl<N: StoreName, R: Wait + Drop> VersionWriter<N, R> {
     }
 
     /// Whether the entry may come next, or after which Sweep. Nothing is held, so the published copy has all that is kept.
-    fn judge(&mut self, entry: &Entry) -> Result<Option<Entry>, PutFault>
-        requires { self.old.held ≡ None }
+    ///
+    /// # Errors
+    ///
+    /// [`Stale`](PutFault::Stale) and [`Full`](PutFault::Full) as in [`rs_store::judge`].
+    pub fn judge(&mut self, entry: &Entry) -> Result<Option<Entry>, PutFault>
+        requires { self.old.held ≡ [] }
         ensures same { self.new ≡ self.old }
         ensures judged { MatchResult result
             (λ before. MatchOption before (IsLegal N.limit (extended self.old.published entry.now))
@@ -232,9 +237,9 @@ impl<N: StoreName, R: Wait + Drop> VersionWriter<N, R> {
 
     /// Appends the entry, which is held from then on. An error, too, if the messages would count more bytes than they may.
     fn append(&mut self, entry: Entry) -> Result<(), AllocError>
-        requires none { self.old.held ≡ None }
+        requires none { self.old.held ≡ [] }
         requires legal { IsLegal N.limit (extended self.old.published entry) }
-        ensures { MatchResult result (λ _. self.new ≡ record { published = self.old.published; held = Some entry })
+        ensures { MatchResult result (λ _. self.new ≡ holds_back self.old.published entry)
             (λ _. self.new ≡ self.old) }
     {
         // For the proof: these calls say which places and serials an origin may have.
@@ -251,15 +256,15 @@ impl<N: StoreName, R: Wait + Drop> VersionWriter<N, R> {
         Ok(())
     }
 
-    /// Appends a Sweep and publishes it. Refused, it is held or not kept.
-    fn put_sweep(&mut self, sweep: Entry) -> Result<(), AllocError>
-        requires none { self.old.held ≡ None }
-        requires legal { IsLegal N.limit (extended self.old.published sweep) }
+    /// Appends an entry that may come next, and publishes it. Refused, it is held or not kept.
+    pub(crate) fn put_legal(&mut self, entry: Entry) -> Result<(), AllocError>
+        requires none { self.old.held ≡ [] }
+        requires legal { IsLegal N.limit (extended self.old.published entry) }
         ensures { MatchResult result
-            (λ _. self.new ≡ shows (extended self.old.published sweep))
-            (λ _. (self.new ≡ self.old) ⊎ (self.new ≡ holds_back self.old.published sweep)) }
+            (λ _. self.new ≡ shows (extended self.old.published entry))
+            (λ _. (self.new ≡ self.old) ⊎ (self.new ≡ holds_back self.old.published entry)) }
     {
-        self.append(sweep)?;
+        self.append(entry)?;
         drop(self.release()?);
         Ok(())
     }
@@ -275,7 +280,7 @@ impl<N: StoreName, R: Wait + Drop> VersionWriter<N, R> {
         }
         match self.judge(entry) {
             Ok(None) => Ok(()),
-            Ok(Some(sweep)) => match self.put_sweep(sweep) {
+            Ok(Some(sweep)) => match self.put_legal(sweep) {
                 Ok(()) => Ok(()),
                 Err(_) => Err(PutFault::NoMemory),
             },
@@ -289,6 +294,28 @@ impl<N: StoreName, R: Wait + Drop> VersionWriter<N, R> {
         ensures { result ≡ record { entry = entry; number = length self.now.published; told = self.now.published } }
     {
         Receipt::of_last(entry, self.tell())
+    }
+
+    /// Appends an entry that may come next, and publishes it.
+    fn add(&mut self, entry: Entry) -> Result<Receipt<N>, PutFault>
+        requires none { self.old.held ≡ [] }
+        requires legal { IsLegal N.limit (extended self.old.published entry) }
+        ensures published { OnOk result (self.new ≡ shows (extended self.old.published entry)) }
+        ensures entry { IfOk result (λ r. r.entry ≡ entry) }
+        ensures number { IfOk result (λ r. r.number ≡ length self.new.published) }
+        ensures told { IfOk result (λ r. r.told ≡ self.new.published) }
+        ensures legal { OnOk result (IsLegal N.limit self.new.published) }
+        ensures deferred { IfErr result (λ f. Defers self.old entry f self.new) }
+    {
+        match self.append(entry) {
+            Ok(()) => {}
+            Err(_) => return Err(PutFault::NoMemory),
+        }
+        match self.retry() {
+            Ok(Some(receipt)) => Ok(receipt),
+            Ok(None) => unreachable!(),
+            Err(_) => Err(PutFault::Held),
+        }
     }
 
     /// Publishes the entry after all that is kept. A held entry is published first. If the entry may come only after a Sweep (see
@@ -315,15 +342,57 @@ impl<N: StoreName, R: Wait + Drop> VersionWriter<N, R> {
         if let Err(fault) = self.make_space(&entry) {
             return Err(fault);
         }
-        match self.append(entry) {
-            Ok(()) => {}
-            Err(_) => return Err(PutFault::NoMemory),
+        self.add(entry)
+    }
+
+    /// Publishes an entry that may come next, which may be a Sweep, after all that is kept. A held entry is published first.
+    ///
+    /// # Errors
+    ///
+    /// - [`NoMemory`](PutFault::NoMemory): the entry is not kept. What was held is published, or could not be, and nothing changed.
+    /// - [`Held`](PutFault::Held): the kept list from before is published, and the entry is held.
+    pub fn follow(&mut self, entry: Entry) -> Result<Receipt<N>, PutFault>
+        requires { IsLegal N.limit (extended (kept_of self.old) entry) }
+        ensures published { OnOk result (self.new ≡ shows (extended (kept_of self.old) entry)) }
+        ensures entry { IfOk result (λ r. r.entry ≡ entry) }
+        ensures number { IfOk result (λ r. r.number ≡ length self.new.published) }
+        ensures told { IfOk result (λ r. r.told ≡ self.new.published) }
+        ensures refused { IfErr result (λ f. Defers (released self.old) entry f self.new ⊎ ((f ≡ NoMemory) × (self.new ≡ self.old))) }
+    {
+        let Ok(_published) = self.release() else {
+            return Err(PutFault::NoMemory);
+        };
+        self.add(entry)
+    }
+
+    /// Whether a Set leaves the messages of the published list with no more bytes than they may count (see
+    /// [`Blank::with_memory`](crate::Blank::with_memory)). Nothing is held.
+    pub fn has_room(&self, entry: &Entry) -> bool
+        requires { self.now.held ≡ [] }
+    {
+        fits(self.copies.catalogue(), self.memory, entry)
+    }
+
+    /// Whether so many entries may come next, whatever they are, if their serials rise: there is space for a topic for each.
+    pub fn has_space(&self, limit: TopicLimit, count: usize) -> bool
+        requires { limit ≡ N.limit }
+        ensures { result ≡ true → HasSpaceFor N.limit self.now.published count }
+    {
+        let catalogue = self.copies.catalogue();
+        let topics = catalogue.count();
+        let entries = catalogue.version();
+        if count > limit.get().saturating_sub(topics) as usize {
+            return false;
         }
-        match self.retry() {
-            Ok(Some(receipt)) => Ok(receipt),
-            Ok(None) => unreachable!(),
-            Err(_) => Err(PutFault::Held),
+        if count as u64 >= u64::MAX - entries {
+            return false;
         }
+        true
+    }
+
+    /// How many bytes more the messages of the published list may count.
+    pub fn free_bytes(&self) -> u64 {
+        self.memory.saturating_sub(self.copies.catalogue().bytes())
     }
 
     /// Publishes the held entry. `Ok(None)` if nothing is held. The receipt is that of whatever was held, also of a Sweep.
@@ -333,12 +402,12 @@ impl<N: StoreName, R: Wait + Drop> VersionWriter<N, R> {
     /// [`AllocError`] if it could not be published. It is held as before.
     pub fn retry(&mut self) -> Result<Option<Receipt<N>>, AllocError>
         ensures published { OnOk result (self.new ≡ released self.old) }
-        ensures none { IfOk result (λ o. IfNone o ((self.old.held ≡ None) × (self.new ≡ self.old))) }
-        ensures entry { IfOk result (λ o. IfSome o (λ r. self.old.held ≡ Some r.entry)) }
+        ensures none { IfOk result (λ o. IfNone o ((self.old.held ≡ []) × (self.new ≡ self.old))) }
+        ensures entry { IfOk result (λ o. IfSome o (λ r. self.old.held ≡ r.entry ∷ [])) }
         ensures number { IfOk result (λ o. IfSome o (λ r. r.number ≡ length (kept_of self.old))) }
         ensures told { IfOk result (λ o. IfSome o (λ r. r.told ≡ self.new.published)) }
         ensures legal { IfOk result (λ o. OnSome o (IsLegal N.limit self.new.published)) }
-        ensures refused { OnErr result ((self.old.held ≢ None) × (self.new ≡ self.old)) }
+        ensures refused { OnErr result ((self.old.held ≢ []) × (self.new ≡ self.old)) }
     {
         let Some(entry) = self.release()? else {
             return Ok(None);
@@ -382,7 +451,7 @@ impl<N: StoreName, R: Wait + Drop> VersionWriter<N, R> {
 
     /// The origin of the held entry.
     pub fn held(&self) -> Option<Origin>
-        ensures { result ≡ option_map (λ e. e.origin) self.now.held }
+        ensures { map (λ e. e.origin) self.now.held ≡ listed result }
     {
         match &self.held {
             Some(entry) => Some(entry.origin),

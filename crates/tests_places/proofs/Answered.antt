@@ -7,14 +7,13 @@ use Rattle.rs_session.specs.Stored.{lists_of}
 use Rattle.rs_session.specs.Run.{Exchange}
 use Rattle.rs_places.proofs.Whole.{new_gates_length}
 use Rattle.rs_message.specs.declared.entry.Entry.{Entry}
-use Rattle.rs_version.specs.Copies.{listed}
-use Rattle.rs_places_turns.specs.Visits.{AreConnectionsServed, Place, Visit, next_number}
-use Rattle.rs_places_turns.specs.Places.{Left, places_of}
-use Rattle.rs_places_turns.specs.Shared.{SharedValue}
-use Rattle.rs_places_turns.specs.Within.{AreWithin}
+use Rattle.rs_places_steps.specs.Visits.{AreConnectionsServed, Place, Visit, next_number}
+use Rattle.rs_places_steps.specs.Places.{Left, places_of}
+use Rattle.rs_places_steps.specs.Shared.{SharedValue}
+use Rattle.rs_places_steps.specs.Within.{AreWithin}
 use Rattle.rs_intake.specs.declared.cause.Cause.{Cause}
 use Rattle.rs_places.specs.Store.{IsPlaceOf, IsStoreRun, new_gates}
-use Rattle.rs_places_turns.specs.Turns.{AreAll, Connections, Ending, Streams, TookBack}
+use Rattle.rs_places_steps.specs.Turns.{AreAll, Connections, Ending, Streams, TookBack}
 use Rattle.tests_places.specs.Answered.{AreAnswered, ArePlacesAnswered, EachAnswered, IsPlaceAnswered}
 
 abbrev AllOf : List Entry → List Exchange → Type 0
@@ -73,16 +72,16 @@ places_answered limit history entries (connections ∷ turns) (gate ∷ gates) [
 places_answered limit history entries (connections ∷ turns) (gate ∷ gates) (end ∷ left) same known each =
     (place_answered limit history entries (record { connections = connections; gate = gate }) end known.0 each.0, places_answered limit history entries turns gates left (omega (arith, same)) known.1 each.1)
 
-pub run_answered : (limit places : ℕ) (before after : List Connections) (version : ℕ) (changes : Option ℕ) (cause : Cause) → length before ≡ places → AllByRecursion (λ connections. is_some connections.waiting ≡ true) before → IsStoreRun limit places before after version changes cause → AreAnswered limit before after version
-run_answered limit places before after version changes cause count known run =
+pub run_answered : (limit places : ℕ) (begun : List Entry) (before after : List Connections) (version : ℕ) (changes : Option ℕ) (cause : Cause) → length before ≡ places → AllByRecursion (λ connections. is_some connections.waiting ≡ true) before → IsStoreRun limit places begun before after version changes cause → AreAnswered limit before after version
+run_answered limit places begun before after version changes cause count known run =
     let P : List Connections → Type 0 = λ l. ArePlacesAnswered run.history before l in
     record {
       history = run.history;
       legal = run.legal;
       published = run.published;
-      first = (listed run.held, run.whole);
+      first = (run.held, run.whole);
       entries = run.entries;
-      places = subst P (sym run.turns) (places_answered limit run.history run.taken before (new_gates places) run.left (count ∙ sym (new_gates_length places)) known run.each);
+      places = subst P (sym run.turns) (places_answered limit run.history run.taken before (new_gates begun places) run.left (count ∙ sym (new_gates_length begun places)) known run.each);
     }
 
 pub if_ok_more : {A E : Type 0} (r : Result A E) (P Q : A → Type 0) → ((x : A) → P x → Q x) → IfOk r P → IfOk r Q

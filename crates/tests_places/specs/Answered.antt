@@ -11,7 +11,7 @@ use Rattle.rs_session.specs.Run.{Run, Exchange}
 use Rattle.rs_session.specs.State.{State}
 use Rattle.rs_server.specs.Clock.{TellsInOrder}
 use Rattle.rs_server.specs.Conversation.{Causes, InputsOf, WritesReplies, inputs_of, moments_of, planned_inputs, planned_moments, start}
-use Rattle.rs_places_turns.specs.Turns.{Connections, Ending, Streams}
+use Rattle.rs_places_steps.specs.Turns.{Connections, Ending, Streams}
 
 -- The connection was answered by a session: what its client was written are the session's replies to the bytes that it sent. The list
 -- that it began with, and each that a filter was answered from, is a prefix of this one. A fault that the turn was told was met.

@@ -7,6 +7,7 @@ mod ahead;
 mod ending;
 mod faults;
 mod gates;
+mod given;
 mod known;
 mod peers;
 mod runs;

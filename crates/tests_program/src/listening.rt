@@ -1,6 +1,6 @@
 //! Clients on the loopback.
 
-use kit_test::{CONNACK, CONNECT, REPLAYED, SUBSCRIBED, is_shown};
+use kit_test::{CONNACK, CONNECT, DISCONNECT, REPLAYED, SUBSCRIBED, is_shown};
 use log::Log;
 use rs_message::PlaceCount;
 use rs_store::TopicLimit;
@@ -14,8 +14,6 @@ use std::sync::Wait;
 use std::test::Fail;
 use std::thread::{JoinHandle, Threads, sleep, spawn};
 use std::time::{Clock, Duration, Instant};
-
-const DISCONNECT: &[u8] = b"\xE0\x00";
 
 /// PUBLISH at QoS 1 of a/b, retained, identifier 1.
 const PUBLISH: &[u8] = b"\x33\x09\x00\x03a/b\x00\x01\x00x";
@@ -249,6 +247,10 @@ fn faults_have_a_text(rt: HostRuntime) {
         (
             ListenFault::Metrics(io::Error::from(ErrorKind::AddrInUse)),
             "the address for metrics cannot be listened on: address in use",
+        ),
+        (
+            ListenFault::TooManyTopics,
+            "more topics are given than the store may hold; raise the limit",
         ),
         (ListenFault::NoMemory, "out of memory"),
         (ListenFault::NoThread, "no thread can be started"),

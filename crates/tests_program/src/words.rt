@@ -44,7 +44,7 @@ fn words_ask_for_a_pipe(rt: HostRuntime) -> Result<(), Fail> {
 fn words_ask_to_listen(rt: HostRuntime) -> Result<(), Fail> {
     let alloc = rt.alloc();
     let all =
-        "listen --address [::1]:0 --places 64 --clients 10000 --topics 65536 --memory 17179869183G --connections 1000000 --idle 86400 --log --metrics [::1]:9100";
+        "listen --address [::1]:0 --places 64 --clients 10000 --topics 65536 --memory 17179869183G --connections 1000000 --idle 86400 --log --metrics [::1]:9884";
     let commands = [
         (
             "listen --address a:1 --connections 1",
@@ -104,7 +104,7 @@ fn words_ask_to_listen(rt: HostRuntime) -> Result<(), Fail> {
             Some(MAX_CONNECTIONS),
             Some(MAX_IDLE),
             true,
-            Some("[::1]:9100"),
+            Some("[::1]:9884"),
         ),
         (
             "listen --endless --metrics=m --idle=3 --clients=5 --address=e --memory=512M",

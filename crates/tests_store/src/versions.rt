@@ -1,5 +1,6 @@
 //! Worked examples of one thread, with ample memory: tables of calls.
 
+mod given;
 mod steps;
 
 use kit_test::{blank_store, is_shown};

@@ -1,8 +1,7 @@
 //! Of which clients a watch tells, and how often.
 
 use rs_places_pool::Watch;
-use rs_tcp_sockets::{Accepted, FromClient, Listener};
-use rs_tcp_watch::SocketWatch;
+use rs_tcp_sockets::{Accepted, FromClient, Listener, SocketWatch};
 use std::alloc::Global;
 use std::io;
 use std::io::Write;

@@ -12,6 +12,7 @@ pub enum Part {
     End,
     Store,
     Prefix,
+    Cleared,
 }
 
 #[derive(Clone, Copy, Debug, Error)]

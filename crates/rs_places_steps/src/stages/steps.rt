@@ -6,17 +6,19 @@ ghost use Rattle.rs_server.specs.Counts.{failures_of, inner_of};
 ghost use Rattle.rs_server.specs.Serving.{session_of};
 ghost use Rattle.rs_message.specs.declared.entry.Entry.{Entry};
 ghost use Rattle.rs_server.specs.Refusals.{gate_of as counted_gate};
-ghost use Rattle.rs_places_turns.specs.Places.{IsPlaceServed, left_at};
-ghost use Rattle.rs_places_turns.specs.Shared.{HandsOn, operations_of};
-ghost use Rattle.rs_places_turns.specs.Turns.{IsOut};
+ghost use Rattle.rs_places_steps.specs.Places.{IsPlaceServed, left_at};
+ghost use Rattle.rs_places_steps.specs.Shared.{HandsOn, operations_of};
+ghost use Rattle.rs_places_steps.specs.Turns.{IsOut};
 ghost use Rattle.rs_places_steps.specs.Begins.{place_of};
 ghost use Rattle.rs_places_steps.specs.Steps.{WasServed, counted_view};
 ghost use Rattle.rs_places_steps.specs.Stages.{IsNext, IsReadOrEnded, IsServedOrEnded, begun_of};
 
 use super::{Connected, DoneClient, EndedClient, FreeClient, ReadClient, ServedClient, Stage};
 use crate::begun::Begun;
+use crate::ended::EndedConnection;
+use crate::gates::LineGate;
+use crate::turn::{Connection, PlaceEnd, Turn};
 use rs_places_pool::Watch;
-use rs_places_turns::{Connection, EndedConnection, LineGate, PlaceEnd, Turn};
 use rs_server::{ConnectionId, Counted, CountedGate, Refusals, ServeFault, Served, Serving, Tally};
 use std::alloc::Global;
 use std::sync::Wait;
@@ -207,7 +209,7 @@ impl<T: Turn + Drop, G: LineGate + Drop> ReadClient<T, G> {
 }
 
 /// The gate, which is handed on, and what it refused.
-fn hand_on<G: LineGate>(counted: CountedGate<G>) -> (G, Refusals)
+fn handed_on<G: LineGate>(counted: CountedGate<G>) -> (G, Refusals)
     ensures known { (G.shared result.0).known ≡ (G.shared (counted_gate counted)).known }
     ensures mark { (tail : List Entry) × HandsOn (G.shared (counted_gate counted)).mark tail (G.shared result.0).mark
         × (operations_of tail ≡ (G.shared (counted_gate counted)).pending) }
@@ -232,7 +234,7 @@ impl<T: Turn + Drop, G: LineGate + Drop> EndedClient<T, G> {
             result,
             packets,
         } = self;
-        let (gate, refusals) = hand_on(gate);
+        let (gate, refusals) = handed_on(gate);
         let line = gate.place();
         let told = gate.told();
         turn.end(

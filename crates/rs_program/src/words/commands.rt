@@ -99,7 +99,7 @@ const LOG_HELP: &str =
     "Write a line to standard error when a connection begins and when it ends, and when the store refuses messages";
 
 const METRICS_HELP: &str =
-    "The address at which metrics are served by HTTP, as localhost:9100; by default nowhere";
+    "The address at which metrics are served by HTTP, as localhost:9884; by default nowhere";
 
 // The value names `1-64`, `1-10000`, `1-65536`, `1-1000000` and `1-86400` below, and the default of `--topics`, which is the limit of
 // `pipe`.

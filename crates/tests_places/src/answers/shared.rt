@@ -1,13 +1,14 @@
 //! The gates of two lines of one store, held side by side: what they answer to a filter, and what they know.
 
-ghost use Rattle.std.specs.Prelude.{◌≡◌, []};
+ghost use Rattle.std.specs.Prelude.{◌≡◌};
+ghost use Rattle.rs_version.specs.First.{AreOwn};
 ghost use Rattle.rs_version.specs.Writer.{kept_of};
 
 use super::{answers, answers_within, takes_and_answers};
 use rs_intake::{BlankQueue, Ended, Queue, run_writer, settle};
 use rs_intake_line::LineName;
 use rs_places::{SharedGate, open_gates};
-use rs_places_turns::{LineGate, StoreGate};
+use rs_places_steps::{LineGate, StoreGate};
 use rs_topic::TopicFilter;
 use rs_version::{Blank, Told, VersionWriter};
 use std::alloc::Global;
@@ -62,8 +63,12 @@ fn both_answer<N: LineName, R: Wait + Copy>(
 fn start_writer<
     N: LineName + Send + Sync + 'static,
     R: Threads + Wait + Abort + Copy + Send + Sync + 'static,
->(rt: R, queue: Queue<N>, writer: VersionWriter<N, R>) -> Option<JoinHandle<Ended<N, R>>>
-    requires { kept_of writer ≡ [] }
+>(
+    rt: R,
+    queue: Queue<N>,
+    writer: VersionWriter<N, R>,
+) -> Option<JoinHandle<Ended<N, VersionWriter<N, R>>>>
+    requires { AreOwn (kept_of writer) }
 {
     spawn(&rt, move || run_writer(&rt, queue, writer)).ok()
 }

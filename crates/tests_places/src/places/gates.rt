@@ -1,8 +1,9 @@
 //! Gates of one store, held side by side, each with a line of its own: what each is told and answered, before the writer's thread is there
 //! and then. They read by a seat each, or share seats.
 
-ghost use Rattle.std.specs.Prelude.{◌≡◌, [], false, All, IfSome};
+ghost use Rattle.std.specs.Prelude.{◌≡◌, false, All, IfSome};
 ghost use Rattle.rs_message.specs.Messages.{is_sweep};
+ghost use Rattle.rs_version.specs.First.{AreOwn};
 ghost use Rattle.rs_version.specs.Writer.{kept_of};
 
 use kit_test::{blank_store, set};
@@ -10,7 +11,7 @@ use rs_intake::{BlankQueue, Ended, Queue, blank_queue, run_writer, settle};
 use rs_intake_line::LineName;
 use rs_message::{LineCount, Operation, PlaceCount};
 use rs_places::{SharedGate, open_gates};
-use rs_places_turns::LineGate;
+use rs_places_steps::LineGate;
 use rs_session::Gate;
 use rs_topic::TopicFilter;
 use rs_version::{Blank, VersionWriter};
@@ -126,8 +127,12 @@ fn first_wrong<N: LineName, R: Wait + Copy>(
 fn start_writer<
     N: LineName + Send + Sync + 'static,
     R: Threads + Wait + Copy + Send + Sync + 'static,
->(rt: R, queue: Queue<N>, writer: VersionWriter<N, R>) -> Option<JoinHandle<Ended<N, R>>>
-    requires { kept_of writer ≡ [] }
+>(
+    rt: R,
+    queue: Queue<N>,
+    writer: VersionWriter<N, R>,
+) -> Option<JoinHandle<Ended<N, VersionWriter<N, R>>>>
+    requires { AreOwn (kept_of writer) }
 {
     spawn(&rt, move || run_writer(&rt, queue, writer)).ok()
 }

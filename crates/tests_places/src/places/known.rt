@@ -2,17 +2,17 @@
 
 ghost use Rattle.std.specs.Prelude.{◌≡◌, All, IfOk, is_some, length, map, true};
 ghost use Rattle.rs_server.specs.Counts.{failures_of, inner_of};
-ghost use Rattle.rs_places_turns.specs.Ended.{ending_of};
-ghost use Rattle.rs_places_turns.specs.Turns.{TakesBack};
+ghost use Rattle.rs_places_steps.specs.Ended.{ending_of};
+ghost use Rattle.rs_places_steps.specs.Turns.{TakesBack};
 ghost use Rattle.tests_places.specs.Answered.{AreAnswered};
 
 use kit_places::{NONE, PUBLISHES, SUBSCRIBES};
 use kit_test::{CONNACK, CONNECT, REPLAYED, SUBSCRIBED, blank_store, concat, is_concat};
 use rs_intake::{BlankQueue, blank_queue};
-use rs_message::{LineCount, PlaceCount};
+use rs_message::{Found, LineCount, PlaceCount};
 use rs_places::{StoreEnd, run_store};
 use rs_places_pool::{NoWatch, Runner};
-use rs_places_turns::{Connection, EndedConnection, FreeTurn, StoreFault, Turn};
+use rs_places_steps::{Connection, EndedConnection, FreeTurn, StoreFault, Turn};
 use rs_server::{Clock, Moments, Refusals, ServeFault, Served};
 use rs_version::{Blank, StoreName, Told};
 use std::alloc::{AllocError, Global};
@@ -125,13 +125,14 @@ impl Turn for Listed {
     }
 }
 
-/// Runs a store over turns whose connections are known. The contract of the run says what each client read: each connection that
+/// Runs a store that begins with this over turns whose connections are known. The contract of the run says what each client read: each connection that
 /// waited was answered, in its order, by the replies of a session to its own bytes, at its own times, and each list that its filters
 /// were answered from is a prefix of one legal history.
 fn answered<T: Turn + Send + Drop + 'static, H: Threads + Wait + Copy + Send + Sync + 'static>(
     rt: H,
     alloc: Global,
     blank: Blank,
+    given: Vec<Found>,
     queue: BlankQueue,
     turns: Vec<FreeTurn<T>>,
 ) -> Result<StoreEnd<T>, StoreFault>
@@ -143,7 +144,15 @@ where
     requires known { All (λ turn. is_some (T.connections turn).waiting ≡ true) turns.items }
     ensures { IfOk result (λ end. AreAnswered blank.limit (map T.connections turns.items) (map T.connections end.turns.items) end.version) }
 {
-    run_store(rt, alloc, blank, queue, turns, Runner::<NoWatch>::OneEach)
+    run_store(
+        rt,
+        alloc,
+        blank,
+        given,
+        queue,
+        turns,
+        Runner::<NoWatch>::OneEach,
+    )
 }
 
 /// A connection of a client that sends this, at 0.
@@ -214,7 +223,7 @@ fn connections_in_memory_are_answered(rt: HostRuntime) -> Result<(), Fail> {
     let places = PlaceCount::new(2).ok_or("two places")?;
     let blank = blank_store(alloc, 10, places)?;
     let queue = blank_queue(alloc, LineCount::of_places(places))?;
-    let end = answered(rt, alloc, blank, queue, turns)?;
+    let end = answered(rt, alloc, blank, Vec::new(alloc), queue, turns)?;
     assert!(rt; end.threads == 2);
     assert!(rt; (end.changes, end.version) == (Some(1), 1));
     let turns = end.turns;
@@ -278,7 +287,7 @@ fn a_turn_is_told_what_was_refused(rt: HostRuntime) -> Result<(), Fail> {
     let places = PlaceCount::new(1).ok_or("a place")?;
     let blank = blank_store(alloc, 1, places)?;
     let queue = blank_queue(alloc, LineCount::of_places(places))?;
-    let end = answered(rt, alloc, blank, queue, turns)?;
+    let end = answered(rt, alloc, blank, Vec::new(alloc), queue, turns)?;
     assert!(rt; (end.changes, end.version) == (Some(5), 2));
     let told = match end.turns.get(0) {
         Some(turn) => is_refused(turn, &[3, 0]),

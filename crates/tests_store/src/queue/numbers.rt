@@ -8,7 +8,7 @@ use rs_intake::{BlankQueue, JobWriter, blank_queue};
 use rs_intake_line::{LineName, SeatLine};
 use rs_message::{LineCount, PlaceCount};
 use rs_metrics::{Limits, Metrics, Source};
-use rs_version::Blank;
+use rs_version::{Blank, VersionWriter};
 use std::alloc::Global;
 use std::marker::Brand;
 use std::sync::{Arc, Wait};
@@ -37,7 +37,7 @@ fn look(metrics: &Metrics) -> Seen {
 /// Lets the writer make so many steps, and looks behind each. Whether one of them was its last.
 fn step<N: LineName, R: Wait + Copy>(
     rt: R,
-    writer: &mut JobWriter<N, R>,
+    writer: &mut JobWriter<N, VersionWriter<N, R>>,
     metrics: &Metrics,
     seen: &mut Vec<Seen>,
 ) -> Option<bool> {

@@ -1,7 +1,8 @@
 //! A store with its queue: a thread for each place, which follows a script, and one for the writer.
 
-ghost use Rattle.std.specs.Prelude.{◌≡◌, ◌<◌, ◌≤◌, [], false, All, IfSome};
+ghost use Rattle.std.specs.Prelude.{◌≡◌, ◌<◌, ◌≤◌, false, All, IfSome};
 ghost use Rattle.rs_message.specs.Messages.{is_sweep};
+ghost use Rattle.rs_version.specs.First.{AreOwn};
 ghost use Rattle.rs_version.specs.Writer.{kept_of};
 
 use super::log::{Log, Outcome, Ran, Totals};
@@ -10,7 +11,7 @@ use kit_test::{blank_store, read_all};
 use rs_intake::{BlankQueue, Ended, Queue, blank_queue, run_writer, run_writer_for, settle};
 use rs_intake_line::{Intake, LineEnd, LineName, SeatLine};
 use rs_message::{LineCount, Operation, PlaceCount};
-use rs_version::{Blank, Receipt, Seat, VersionWriter};
+use rs_version::{Blank, Receipt, Seat, StoreWriter, VersionWriter};
 use std::alloc::Global;
 use std::marker::Brand;
 use std::process::Abort;
@@ -221,8 +222,8 @@ fn write<N: LineName, R: Wait + Clock + Copy>(
     queue: Queue<N>,
     writer: VersionWriter<N, R>,
     writing: Writing,
-) -> Option<Ended<N, R>>
-    requires empty { kept_of writer ≡ [] }
+) -> Option<Ended<N, VersionWriter<N, R>>>
+    requires own { AreOwn (kept_of writer) }
 {
     match writing {
         Writing::All => Some(run_writer(&rt, queue, writer)),
@@ -291,9 +292,9 @@ fn start<
     }
 }
 
-fn totals_of<N: LineName, R: Wait + Drop>(
+fn totals_of<N: LineName, S: StoreWriter<N>>(
     alloc: Global,
-    ended: Ended<N, R>,
+    ended: Ended<N, S>,
     ends: Vec<LineEnd<N>>,
 ) -> Totals {
     let mut ended = ended;
@@ -323,10 +324,10 @@ fn join_all<N: LineName, R: Threads>(
     Some(())
 }
 
-fn finish<N: LineName, R: Threads + Wait + Copy>(
+fn finish<N: LineName, S: StoreWriter<N>, R: Threads + Wait + Copy>(
     rt: &R,
     alloc: Global,
-    writer: JoinHandle<Option<Ended<N, R>>>,
+    writer: JoinHandle<Option<Ended<N, S>>>,
     handles: Vec<JoinHandle<(Log, LineEnd<N>)>>,
 ) -> Ran {
     let (mut logs, mut ends) = (Vec::new(alloc), Vec::new(alloc));

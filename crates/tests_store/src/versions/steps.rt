@@ -5,6 +5,7 @@ ghost use Rattle.rs_message.specs.Messages.{is_sweep};
 
 use kit_test::{clear, read_all, set_at};
 use rs_message::{Entry, Found, Operation, Origin};
+use rs_topic::TopicFilter;
 use rs_version::{Blank, Receipt, Seat, Snapshot, StoreName, Told, VersionWriter};
 use std::alloc::Global;
 use std::marker::Brand;
@@ -34,6 +35,8 @@ pub(crate) enum Look {
     Compares(usize, (bool, bool)),
     /// At this moment it reads this version, and these topics, each with a space behind it.
     Reads(u64, u64, &'static [u8]),
+    /// The same for a filter.
+    Finds(&'static [u8], u64, u64, &'static [u8]),
 }
 
 /// A call, and what it has to answer.
@@ -143,6 +146,11 @@ fn is_seen<N: StoreName>(
             let snapshot = read_all(alloc, seat, now).ok()?;
             Some(is_of(alloc, &snapshot, version, topics))
         }
+        Look::Finds(filter, now, version, topics) => {
+            let filter = TopicFilter::read(alloc, filter).ok()?;
+            let snapshot = seat.answer(&filter, now).ok()?;
+            Some(is_of(alloc, &snapshot, version, topics))
+        }
     }
 }
 
@@ -186,16 +194,17 @@ fn answered<N: StoreName, R: Wait + Drop>(
     count
 }
 
-/// The same for a new store. Then the writer ends: `None` if a seat reads thereafter.
+/// The same for a new store that begins with this. Then the writer ends: `None` if a seat reads thereafter.
 fn answered_by<N: StoreName, R: Wait>(
     rt: &R,
     alloc: Global,
     blank: Blank,
+    given: Vec<Found>,
     steps: &[Step],
 ) -> Option<usize>
     requires { (blank.history ≡ N.history) × (blank.limit ≡ N.limit) }
 {
-    let (mut writer, mut seats) = blank.open::<N, &R>(rt).ok()?;
+    let (mut writer, mut seats) = blank.open_with::<N, &R>(rt, given).ok()?;
     let count = answered(alloc, &mut writer, &mut seats, steps);
     drop(writer);
     for seat in &mut seats {
@@ -206,14 +215,25 @@ fn answered_by<N: StoreName, R: Wait>(
     Some(count)
 }
 
-/// Makes the calls, one after the other. Each has to answer what it says.
+/// Makes the calls, one after the other, of a store that is empty at first. Each has to answer what it says.
 pub(crate) fn check_steps<R: Wait + Abort>(
     rt: &R,
     alloc: Global,
     blank: Blank,
     steps: &[Step],
 ) -> Result<(), Fail> {
-    let answered = answered_by::<Brand, R>(rt, alloc, blank, steps);
+    check_steps_behind(rt, alloc, blank, Vec::new(alloc), steps)
+}
+
+/// The same of a store that begins with this.
+pub(crate) fn check_steps_behind<R: Wait + Abort>(
+    rt: &R,
+    alloc: Global,
+    blank: Blank,
+    given: Vec<Found>,
+    steps: &[Step],
+) -> Result<(), Fail> {
+    let answered = answered_by::<Brand, R>(rt, alloc, blank, given, steps);
     let count = answered.ok_or("a store whose seats read nothing at its end")?;
     assert!(rt; count == steps.len(), "at step {count}");
     Ok(())

@@ -303,6 +303,9 @@ const OTHERS: &[Row] = &[
     ),
 ];
 
+// A Content Type, a Response Topic and Correlation Data that begin with `a`.
+const LONG_TEXTS: Kept = Kept(None, Some(b'a'), Some(b'a'), Some(b'a'), 0);
+
 // PUBLISH packets: many User Properties, long payloads, and a long topic, Content Type, Response Topic and Correlation Data.
 const PUBLISHES: &[Row] = &[
     (
@@ -358,15 +361,7 @@ const PUBLISHES: &[Row] = &[
             Part::Long(24),
             Part::Filled(1),
         ],
-        Shape::Publish(
-            true,
-            0,
-            0,
-            0,
-            None,
-            1,
-            Kept(None, Some(b'a'), Some(b'a'), Some(b'a'), 0),
-        ),
+        Shape::Publish(true, 0, 0, 0, None, 1, LONG_TEXTS),
     ),
     (
         0x31,
@@ -381,15 +376,7 @@ const PUBLISHES: &[Row] = &[
             Part::Long(257),
             Part::Filled(1),
         ],
-        Shape::Publish(
-            true,
-            0,
-            0,
-            0,
-            None,
-            1,
-            Kept(None, Some(b'a'), Some(b'a'), Some(b'a'), 0),
-        ),
+        Shape::Publish(true, 0, 0, 0, None, 1, LONG_TEXTS),
     ),
     (
         0x31,
@@ -404,15 +391,7 @@ const PUBLISHES: &[Row] = &[
             Part::Long(40_000),
             Part::Filled(1),
         ],
-        Shape::Publish(
-            true,
-            0,
-            0,
-            0,
-            None,
-            1,
-            Kept(None, Some(b'a'), Some(b'a'), Some(b'a'), 0),
-        ),
+        Shape::Publish(true, 0, 0, 0, None, 1, LONG_TEXTS),
     ),
     (
         0x31,
@@ -427,15 +406,7 @@ const PUBLISHES: &[Row] = &[
             Part::Long(65_531),
             Part::Filled(1),
         ],
-        Shape::Publish(
-            true,
-            0,
-            0,
-            0,
-            None,
-            1,
-            Kept(None, Some(b'a'), Some(b'a'), Some(b'a'), 0),
-        ),
+        Shape::Publish(true, 0, 0, 0, None, 1, LONG_TEXTS),
     ),
 ];
 

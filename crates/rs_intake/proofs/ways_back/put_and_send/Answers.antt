@@ -6,7 +6,7 @@ use Rattle.rs_intake.proofs.ways_back.put_and_send.Goals as goal
 pub loop-alloc-init : goal.loop-alloc-init
 loop-alloc-init g c =
     let few = c.requires.few in
-    (c.requires.left, ([], put_none _ _ _ _ _ refl, sent_none c.args.to.now), omega (arith, few))
+    (c.requires.left, ([], put_none _ _ _ _ _ refl, sent_none c.args.to.now), omega (arith, few), c.requires.ready)
 
 pub loop-alloc-preserved : goal.loop-alloc-preserved
 loop-alloc-preserved g c =
@@ -21,4 +21,5 @@ loop-alloc-preserved g c =
         sent_next c.args.to.now c.loop-alloc.to c.send.new.self _ _ i.1.2 c.send.ensures,
       ),
       omega (arith, few, refused),
+      e.ready,
     )

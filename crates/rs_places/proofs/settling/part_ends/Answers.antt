@@ -1,5 +1,5 @@
 use Rattle.std.proofs.Common.{length, map, sym, ap, ◌∙◌, arith}
-use Rattle.rs_places_turns.proofs.Each.{first_of_all, length_more}
+use Rattle.rs_places_steps.proofs.Each.{first_of_all, length_more}
 use Rattle.rs_places.proofs.Whole.{all_done, push_map}
 use Rattle.rs_places.proofs.settling.part_ends.Goals as goal
 

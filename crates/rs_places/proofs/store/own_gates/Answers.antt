@@ -1,5 +1,5 @@
 use Rattle.std.proofs.Common.{◌≡◌, ◌⊎◌, ⊎_elim, inl, inr, ◌∙◌, ap, sym, length}
-use Rattle.rs_places_turns.specs.Shared.{SharedValue}
+use Rattle.rs_places_steps.specs.Shared.{SharedValue}
 use Rattle.rs_places.proofs.Whole.{next_gate, no_gate}
 use Rattle.rs_places.proofs.store.own_gates.Goals as goal
 

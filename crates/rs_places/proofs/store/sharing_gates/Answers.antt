@@ -1,6 +1,6 @@
 use Rattle.std.proofs.Common.{◌∙◌, ap, sym}
 use Rattle.std.proofs.lemmas.List.{length-map}
-use Rattle.rs_places_turns.specs.Shared.{SharedValue}
+use Rattle.rs_places_steps.specs.Shared.{SharedValue}
 use Rattle.rs_places.specs.Gates.{handed_on}
 use Rattle.rs_places.proofs.Whole.{all_done, next_of_map}
 use Rattle.rs_places.proofs.store.sharing_gates.Goals as goal

@@ -1,5 +1,5 @@
 use Rattle.std.proofs.Common.{rules, Some, ap, sym, ◌∙◌}
-use Rattle.rs_places_steps.specs.Ends.{begun_in}
+use Rattle.rs_places_steps.specs.EndCell.{begun_in}
 use Rattle.rs_places_steps.proofs.Beginnings.{same_begun}
 use Rattle.rs_places_steps.proofs.EndCells.{shares}
 use Rattle.rs_places_steps.proofs.end_cell.client_ends.Goals as goal

@@ -1,4 +1,4 @@
-use Rattle.rs_places_steps.specs.Ends.{begun_in}
+use Rattle.rs_places_steps.specs.EndCell.{begun_in}
 use Rattle.rs_places_steps.proofs.EndCells.{begins}
 use Rattle.rs_places_steps.proofs.end_cell.empty.Goals as goal
 

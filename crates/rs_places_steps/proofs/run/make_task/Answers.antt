@@ -1,6 +1,6 @@
 use Rattle.std.proofs.Common.{ap, ◌∙◌}
-use Rattle.rs_places_turns.specs.Shared.{SharedValue}
-use Rattle.rs_places_turns.specs.Visits.{place_at}
+use Rattle.rs_places_steps.specs.Shared.{SharedValue}
+use Rattle.rs_places_steps.specs.Visits.{place_at}
 use Rattle.rs_places_steps.proofs.run.make_task.Goals as goal
 
 pub returns : goal.returns

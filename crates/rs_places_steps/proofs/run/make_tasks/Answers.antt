@@ -1,6 +1,6 @@
 use Rattle.std.proofs.Common.{◌⊎◌, ⊎_elim, ◌≡◌, inl, inr, sym, ◌∙◌, ap, length, arith}
-use Rattle.rs_places_turns.proofs.Each.{length_more}
-use Rattle.rs_places_turns.proofs.Places.{next_place, no_places}
+use Rattle.rs_places_steps.proofs.Each.{length_more}
+use Rattle.rs_places_steps.proofs.Places.{next_place, no_places}
 use Rattle.rs_places_steps.proofs.Making.{made_all, made_more}
 use Rattle.rs_places_steps.proofs.run.make_tasks.Goals as goal
 

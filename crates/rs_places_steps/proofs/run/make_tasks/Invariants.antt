@@ -1,5 +1,5 @@
 use Rattle.std.specs.Prelude.{◌≡◌, ◌+◌, ◌≤◌, ◌++◌, map, length, vec_capacity}
-use Rattle.rs_places_turns.specs.Places.{places_of}
+use Rattle.rs_places_steps.specs.Places.{places_of}
 use Rattle.rs_places_steps.specs.Begins.{place_of}
 use Rattle.rs_places_steps.proofs.run.make_tasks.Given as goal
 

@@ -1,7 +1,7 @@
 use Rattle.std.proofs.Common.{◌≡◌, List, map, subst, arith}
 use Rattle.std.specs.List.{AllZip}
-use Rattle.rs_places_turns.specs.Places.{IsPlaceServed, left_at}
-use Rattle.rs_places_turns.specs.Visits.{Place}
+use Rattle.rs_places_steps.specs.Places.{IsPlaceServed, left_at}
+use Rattle.rs_places_steps.specs.Visits.{Place}
 use Rattle.rs_places_steps.proofs.run.run_places.Goals as goal
 
 pub take_ends-requires-clause-empty : goal.take_ends-requires-clause-empty

@@ -1,6 +1,6 @@
 use Rattle.std.proofs.Common.{◌≡◌, [], length, sym, ap, ◌∙◌, arith}
 use Rattle.std.proofs.lemmas.List.{nil_from_length}
-use Rattle.rs_places_turns.proofs.Each.{each_of_both, each_of_whole, first_of_all, length_more}
+use Rattle.rs_places_steps.proofs.Each.{each_of_both, each_of_whole, first_of_all, length_more}
 use Rattle.rs_places_steps.proofs.run.take_ends.Goals as goal
 
 pub push_reserved-requires : goal.push_reserved-requires

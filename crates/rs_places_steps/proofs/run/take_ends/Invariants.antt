@@ -1,6 +1,6 @@
 use Rattle.std.specs.Prelude.{◌≡◌, ◌+◌, ◌≤◌, ◌++◌, map, length, vec_capacity}
 use Rattle.std.specs.List.{AllZip}
-use Rattle.rs_places_turns.specs.Places.{IsPlaceServed, left_at}
+use Rattle.rs_places_steps.specs.Places.{IsPlaceServed, left_at}
 use Rattle.rs_places_steps.specs.Begins.{place_of}
 use Rattle.rs_places_steps.proofs.run.take_ends.Given as goal
 

@@ -43,7 +43,7 @@ pub(crate) struct Plan {
 
 /// Where a client is.
 #[derive(Clone, Copy, Debug, PartialEq, Eq)]
-enum Place {
+enum Stage {
     /// It has no connection.
     Free,
     /// It is served one.
@@ -58,7 +58,7 @@ pub(crate) struct FakeClient<H> {
     rt: H,
     scene: Arc<Scene>,
     plan: Plan,
-    place: Place,
+    stage: Stage,
     is_read: bool,
     // How often it was handled.
     rounds: u32,
@@ -74,7 +74,7 @@ impl<H: Wait + Copy> FakeClient<H> {
             rt,
             scene,
             plan,
-            place: Place::Free,
+            stage: Stage::Free,
             is_read: false,
             rounds: 0,
             was_held: false,
@@ -102,7 +102,7 @@ impl<H: Wait + Copy> FakeClient<H> {
         self.rounds = self.rounds.saturating_add(1);
         self.scene.handled.fetch_add(1, Ordering::SeqCst);
         if self.rounds >= self.plan.rounds {
-            self.place = Place::Left;
+            self.stage = Stage::Left;
         }
     }
 }
@@ -114,7 +114,7 @@ impl<H: Wait + Copy> Client<H> for FakeClient<H> {
 
     fn read(self, _alloc: Global) -> FakeClient<H> {
         let mut client = self;
-        if client.place == Place::Served && !client.is_read {
+        if client.stage == Stage::Served && !client.is_read {
             client.pass(Held::InRead);
             client.is_read = true;
         }
@@ -137,10 +137,10 @@ impl<H: Wait + Copy> Client<H> for FakeClient<H> {
             client.is_read = false;
             return Some(client);
         }
-        match client.place {
-            Place::Free => client.place = Place::Served,
-            Place::Served => return Some(client.read(alloc)),
-            Place::Left => {
+        match client.stage {
+            Stage::Free => client.stage = Stage::Served,
+            Stage::Served => return Some(client.read(alloc)),
+            Stage::Left => {
                 client.scene.note_done(rt, client.was_held);
                 return None;
             }
@@ -150,7 +150,7 @@ impl<H: Wait + Copy> Client<H> for FakeClient<H> {
 
     fn write_out<W: Watch<VecDeque<u8>>>(self, watch: &W) -> (FakeClient<H>, bool) {
         let mut client = self;
-        if client.place != Place::Served || client.is_read {
+        if client.stage != Stage::Served || client.is_read {
             return (client, true);
         }
         client.pass(Held::InWrite);
@@ -158,7 +158,7 @@ impl<H: Wait + Copy> Client<H> for FakeClient<H> {
             rt,
             scene,
             plan,
-            place,
+            stage,
             is_read,
             rounds,
             was_held,
@@ -169,7 +169,7 @@ impl<H: Wait + Copy> Client<H> for FakeClient<H> {
             rt,
             scene,
             plan,
-            place,
+            stage,
             is_read,
             rounds,
             was_held,
@@ -182,10 +182,10 @@ impl<H: Wait + Copy> Client<H> for FakeClient<H> {
         if self.is_read {
             return false;
         }
-        match self.place {
-            Place::Free => watch.watch_free(number),
-            Place::Served => watch.watch(lane, number, &self.input),
-            Place::Left => false,
+        match self.stage {
+            Stage::Free => watch.watch_free(number),
+            Stage::Served => watch.watch(lane, number, &self.input),
+            Stage::Left => false,
         }
     }
 }

@@ -36,14 +36,14 @@ pub(crate) enum Manner {
 
 /// The clients of a lane that have something to do, and whether all are to stop.
 #[derive(Drop)]
-struct Told {
+struct LaneState {
     ready: VecDeque<usize>,
     is_stopped: bool,
 }
 
 #[derive(Drop)]
 struct Lane {
-    told: Mutex<Told>,
+    state: Mutex<LaneState>,
     came: Condvar,
 }
 
@@ -71,12 +71,12 @@ impl<H: Wait + Copy> FakeWatch<H> {
     ) -> Result<FakeWatch<H>, AllocError> {
         let mut all = Vec::with_capacity(alloc, lanes)?;
         for _ in 0..lanes {
-            let told = Told {
+            let state = LaneState {
                 ready: VecDeque::new(alloc),
                 is_stopped: false,
             };
             all.push(Lane {
-                told: Mutex::new(told),
+                state: Mutex::new(state),
                 came: Condvar::new(),
             })?;
         }
@@ -95,8 +95,8 @@ impl<H: Wait + Copy> FakeWatch<H> {
         let Some(lane) = self.lanes.get(lane) else {
             return false;
         };
-        let mut told = lane.told.lock(&self.rt);
-        let is_told = told.ready.push_back(client).is_ok();
+        let mut state = lane.state.lock(&self.rt);
+        let is_told = state.ready.push_back(client).is_ok();
         if self.manner != Manner::Unheard {
             lane.came.notify_one();
         }
@@ -134,21 +134,21 @@ impl<H: Wait + Copy> FakeWatch<H> {
     }
 
     /// What there is to tell now: how many clients, whose numbers are at the front of `ready`.
-    fn tell_all(&self, told: &mut Told, ready: &mut [usize]) -> usize
+    fn tell_all(&self, state: &mut LaneState, ready: &mut [usize]) -> usize
         ensures { result ≤ length ready.new }
     {
         let count = self.put_any(ready);
-        take(told, ready, count)
+        take(state, ready, count)
     }
 }
 
 /// Moves the first of the clients to `ready`, behind so many: how many these are together.
-fn take(told: &mut Told, ready: &mut [usize], first: usize) -> usize
+fn take(state: &mut LaneState, ready: &mut [usize], first: usize) -> usize
     requires { first ≤ length ready.old }
     ensures { result ≤ length ready.new }
 {
     for index in first..ready.len() {
-        let Some(client) = told.ready.pop_front() else {
+        let Some(client) = state.ready.pop_front() else {
             return index;
         };
         ready[index] = client;
@@ -159,21 +159,21 @@ fn take(told: &mut Told, ready: &mut [usize], first: usize) -> usize
 impl<H: Wait + Copy, I: Read> Watch<I> for FakeWatch<H> {
     fn wait<T: Wait>(&self, rt: &T, lane: usize, ready: &mut [usize]) -> Option<usize> {
         let lane = self.lanes.get(lane)?;
-        let mut told = lane.told.lock(rt);
+        let mut state = lane.state.lock(rt);
         for _ in rt.forever() {
-            if told.is_stopped {
+            if state.is_stopped {
                 return None;
             }
-            let count = self.tell_all(&mut *told, ready);
+            let count = self.tell_all(&mut *state, ready);
             if count > 0 {
                 return Some(count);
             }
             if self.manner == Manner::Unheard || self.manner == Manner::Nothing {
-                drop(told);
+                drop(state);
                 yield_now();
                 return Some(0);
             }
-            told = lane.came.wait(rt, told);
+            state = lane.came.wait(rt, state);
         }
         unreachable!()
     }
@@ -182,8 +182,8 @@ impl<H: Wait + Copy, I: Read> Watch<I> for FakeWatch<H> {
         let Some(lane) = self.lanes.get(lane) else {
             return 0;
         };
-        let mut told = lane.told.lock(&self.rt);
-        self.tell_all(&mut *told, ready)
+        let mut state = lane.state.lock(&self.rt);
+        self.tell_all(&mut *state, ready)
     }
 
     fn watch(&self, lane: usize, client: usize, _input: &I) -> bool {
@@ -205,8 +205,8 @@ impl<H: Wait + Copy, I: Read> Watch<I> for FakeWatch<H> {
     fn stop(&self) {
         self.scene.stops.fetch_add(1, Ordering::SeqCst);
         for lane in self.lanes.iter() {
-            let mut told = lane.told.lock(&self.rt);
-            told.is_stopped = true;
+            let mut state = lane.state.lock(&self.rt);
+            state.is_stopped = true;
             lane.came.notify_all();
         }
     }

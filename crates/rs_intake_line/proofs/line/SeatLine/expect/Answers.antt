@@ -31,13 +31,13 @@ announced place serial place' place'' taken taken' old job ahead os same job_is 
     subst P (sym same') (seat_sends place serial taken taken' old ahead os none (sent ∙ ap (λ l. taken ++ l) (job_is ∙ ap F same)) (ahead_is ∙ ap F same) fits seat)
 
 pub invariant_of-self : goal.invariant_of-self
-invariant_of-self g c = announced _ _ _ _ _ _ _ _ _ c.args.changes.items c.place-place.ensures.place c.in-Some.ensures.job c.in-Some.ensures.ahead c.if-not-is_empty.ensures c.if-send_changes.ensures.sent c.if-send_changes.ensures.place c.in-Some.ensures.small c.self.invariant
+invariant_of-self g c = announced _ _ _ _ _ _ _ _ _ c.args.changes.items c.place-place.ensures.place c.in-Some.ensures.job c.in-Some.ensures.ahead c.if-not-is_empty.ensures c.in-Ok.ensures.sent c.in-Ok.ensures.place c.in-Some.ensures.small c.self.invariant
 
-pub invariant_of-self-then-send_changes-5 : goal.invariant_of-self-then-send_changes-5
-invariant_of-self-then-send_changes-5 g c = announced _ _ _ _ _ _ _ _ _ c.args.changes.items c.place-place.ensures.place c.in-Some.ensures.job c.in-Some.ensures.ahead c.if-not-is_empty.ensures c.if-send_changes.ensures.sent c.if-send_changes.ensures.place c.in-Some.ensures.small c.self.invariant
+pub invariant_of-self-in-Ok-5 : goal.invariant_of-self-in-Ok-5
+invariant_of-self-in-Ok-5 g c = announced _ _ _ _ _ _ _ _ _ c.args.changes.items c.place-place.ensures.place c.in-Some.ensures.job c.in-Some.ensures.ahead c.if-not-is_empty.ensures c.in-Ok.ensures.sent c.in-Ok.ensures.place c.in-Some.ensures.small c.self.invariant
 
-pub invariant_of-self-then-send_changes-6 : goal.invariant_of-self-then-send_changes-6
-invariant_of-self-then-send_changes-6 g c = announced _ _ _ _ _ _ _ _ _ c.args.changes.items c.place-place.ensures.place c.in-Some.ensures.job c.in-Some.ensures.ahead c.if-not-is_empty.ensures c.if-send_changes.ensures.sent c.if-send_changes.ensures.place c.in-Some.ensures.small c.self.invariant
+pub invariant_of-self-in-Ok-6 : goal.invariant_of-self-in-Ok-6
+invariant_of-self-in-Ok-6 g c = announced _ _ _ _ _ _ _ _ _ c.args.changes.items c.place-place.ensures.place c.in-Some.ensures.job c.in-Some.ensures.ahead c.if-not-is_empty.ensures c.in-Ok.ensures.sent c.in-Ok.ensures.place c.in-Some.ensures.small c.self.invariant
 
 pub announce-requires-clause-plain : goal.announce-requires-clause-plain
 announce-requires-clause-plain g c = each_plain c.args.changes.items c.requires

@@ -9,9 +9,9 @@ use Rattle.rs_intake_queue.specs.Changes.{entry_at}
 use Rattle.rs_intake_line.specs.Lines.{next_serial}
 use Rattle.rs_intake_line.proofs.Faults.{ok_not_err, refused_as}
 use Rattle.rs_places.specs.Gates.{IsOtherPending, mark_of}
-use Rattle.rs_places_turns.specs.Shared.{SharedValue, operations_of}
+use Rattle.rs_places_steps.specs.Shared.{SharedValue, operations_of}
 use Rattle.rs_places.proofs.Submitting.{other_pending, same_mark, sends_it, submits_err, takes_pending, used_if_open}
-use Rattle.rs_places_turns.proofs.Receipts.{submits_ok}
+use Rattle.rs_places_steps.proofs.Receipts.{submits_ok}
 use Rattle.rs_places.proofs.shared_gate.SharedGate.hand_over.Goals as goal
 
 pub returns-clause-list : goal.returns-clause-list

@@ -1,5 +1,5 @@
 use Rattle.std.proofs.Common.{◌≡◌, ◌⊎◌, [], refl, sym, ap, subst, ◌∙◌, append-nil}
-use Rattle.rs_places_turns.specs.Shared.{SharedValue, operations_of}
+use Rattle.rs_places_steps.specs.Shared.{SharedValue, operations_of}
 use Rattle.rs_places.proofs.Submitting.{announces, same_mark}
 use Rattle.rs_places.proofs.shared_gate.SharedGateGate.expect.Goals as goal
 

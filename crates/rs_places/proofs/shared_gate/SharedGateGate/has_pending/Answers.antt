@@ -1,5 +1,5 @@
 use Rattle.std.proofs.Common.{ap}
-use Rattle.rs_places_turns.specs.Shared.{SharedValue}
+use Rattle.rs_places_steps.specs.Shared.{SharedValue}
 use Rattle.rs_places.proofs.Submitting.{is_pending}
 use Rattle.rs_places.proofs.shared_gate.SharedGateGate.has_pending.Goals as goal
 

@@ -1,7 +1,7 @@
 use Rattle.std.proofs.Common.{◌≡◌, List, Some, refl, subst}
 use Rattle.rs_message.specs.declared.entry.Entry.{Entry}
 use Rattle.rs_session.specs.Gate.{Sends}
-use Rattle.rs_places_turns.specs.Shared.{SharedValue, operations_of}
+use Rattle.rs_places_steps.specs.Shared.{SharedValue, operations_of}
 use Rattle.rs_places.proofs.shared_gate.SharedGateLineGate.close.Goals as goal
 
 pub returns-clause-sent : goal.returns-clause-sent

@@ -1,6 +1,6 @@
 use Rattle.std.proofs.Common.{◌≡◌, List, refl, ap, subst}
 use Rattle.rs_message.specs.declared.entry.Entry.{Entry}
-use Rattle.rs_places_turns.specs.Shared.{HandsOn, SharedValue, operations_of}
+use Rattle.rs_places_steps.specs.Shared.{HandsOn, SharedValue, operations_of}
 use Rattle.rs_places.specs.Gates.{mark_of}
 use Rattle.rs_places.proofs.shared_gate.SharedGateLineGate.hand_on.Goals as goal
 

@@ -1,5 +1,5 @@
 use Rattle.std.proofs.Common.{Some, ap, sym, ◌∙◌}
-use Rattle.rs_places_steps.specs.Ends.{begun_in}
+use Rattle.rs_places_steps.specs.EndCell.{begun_in}
 use Rattle.rs_places_steps.proofs.EndCells.{puts}
 use Rattle.rs_places_steps.proofs.end_cell.ClientEnd.put.Goals as goal
 

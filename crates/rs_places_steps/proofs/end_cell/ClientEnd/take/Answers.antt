@@ -1,4 +1,4 @@
-use Rattle.rs_places_steps.specs.Ends.{begun_in}
+use Rattle.rs_places_steps.specs.EndCell.{begun_in}
 use Rattle.rs_places_steps.proofs.EndCells.{takes}
 use Rattle.rs_places_steps.proofs.end_cell.ClientEnd.take.Goals as goal
 

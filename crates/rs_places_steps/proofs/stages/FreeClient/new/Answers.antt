@@ -1,7 +1,7 @@
 use Rattle.std.proofs.Common.{sym, subst}
-use Rattle.rs_places_turns.specs.Visits.{Place, ServedSoFar, place_at}
-use Rattle.rs_places_turns.proofs.Places.{same_place}
-use Rattle.rs_places_turns.proofs.Visits.{served_none}
+use Rattle.rs_places_steps.specs.Visits.{Place, ServedSoFar, place_at}
+use Rattle.rs_places_steps.proofs.Places.{same_place}
+use Rattle.rs_places_steps.proofs.Visits.{served_none}
 use Rattle.rs_places_steps.proofs.stages.FreeClient.new.Goals as goal
 
 pub invariant_of-result : goal.invariant_of-result

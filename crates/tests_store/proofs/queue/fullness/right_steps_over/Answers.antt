@@ -12,4 +12,4 @@ spawn-requires-send-F g c κs within =
 
 pub spawn-requires-send-T : goal.spawn-requires-send-T
 spawn-requires-send-T g c κs within =
-    param_send _ _ (arg_send _ no _ (ended_send (param 0 g.row.N) (copied 1 g.row.R) g.N.LineName g.N.StoreName c.type_bounds.send-R))
+    param_send _ _ (arg_send _ no _ (ended_send (param 0 g.row.N) _ g.N.LineName g.N.StoreName _ (writer_send (param 0 g.row.N) g.N.StoreName (copied 1 g.row.R) c.type_bounds.send-R)))

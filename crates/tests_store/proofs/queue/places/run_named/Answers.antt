@@ -4,7 +4,6 @@ use denote.Param.Send.{arg_send, param_send}
 use Rattle.core.proofs.option.Option.TheSendSync as option
 use Rattle.rs_intake.proofs.Sent.{ended_send}
 use Rattle.rs_intake.proofs.writer.Queue.TheSendSync as queue
-use Rattle.rs_intake.specs.contracts.writer.Ended as Ended
 use Rattle.rs_version.proofs.Sent.{parts_send-4, writer_send}
 use Rattle.tests_store.proofs.queue.places.Writing.TheSendSync as writing
 use Rattle.tests_store.proofs.queue.places.run_named.Goals as goal
@@ -15,5 +14,4 @@ spawn-requires-send-F g c κs within =
 
 pub spawn-requires-send-T : goal.spawn-requires-send-T
 spawn-requires-send-T g c κs within =
-    param_send _ _ (arg_send _ no _ (option.the_send (Ended.the_row (param 0 g.row.N) (copied 1 g.row.R) g.N.LineName g.N.StoreName)
-    (ended_send (param 0 g.row.N) (copied 1 g.row.R) g.N.LineName g.N.StoreName c.type_bounds.send-R)))
+    param_send _ _ (arg_send _ no _ (option.the_send _ (ended_send (param 0 g.row.N) _ g.N.LineName g.N.StoreName _ (writer_send (param 0 g.row.N) g.N.StoreName (copied 1 g.row.R) c.type_bounds.send-R))))

@@ -1,2 +1,0 @@
-pub mod FreeClients
-pub mod Watched
