@@ -22,6 +22,10 @@ BRIDGE = (ROOT / "contrib" / "mosquitto-bridge.conf").read_text()
 GIVEN = "127.0.0.1:1884"
 # More topics than mosquitto keeps for a bridge by its own settings.
 MANY = 1_500
+# Seconds.
+DAY = 86_400
+# The largest packet that the server reads.
+LARGEST = 262_144
 
 
 def free_port():
@@ -58,15 +62,24 @@ def publish_many(broker):
         client.reader.read()
 
 
+def publish_large(broker):
+    """A message that is too large for the server."""
+    with Client(broker) as client:
+        client.send(packets.CONNECT)
+        client.take_packet()
+        client.send(packets.publish(b"a/large", LARGEST * b"x") + packets.DISCONNECT)
+        client.reader.read()
+
+
 def kept(server, seconds, *filters):
-    """What a client reads in so many seconds: the topic, the payload, the Content Type and the user
-    properties of each message, and whether it expires."""
+    """What a client reads in so many seconds: the topic, the payload and the properties of each
+    message, and whether it expires within a day."""
     words = [word for name in filters for word in ("-t", name)]
     command = ["mosquitto_sub", "-h", server.host, "-p", str(server.port), "-V", "5"]
-    form = ["-W", str(seconds), "-F", "%t %p %C %P %E"]
+    form = ["-W", str(seconds), "-F", "%t %p %C %R %D %F %P %E"]
     run = subprocess.run([*command, *words, *form], capture_output=True, text=True)
     messages = [line.split(" ") for line in run.stdout.splitlines()]
-    return sorted((*message[:4], message[4] != "") for message in messages)
+    return sorted((*rest, left != "" and 0 < int(left) <= DAY) for *rest, left in messages)
 
 
 def has(server, wanted, *filters):
@@ -91,17 +104,20 @@ def last_will(broker):
     run.communicate()
 
 
-def message(topic, payload, kind="", properties="", expires=False):
-    return (topic, payload, kind, properties, expires)
+def message(topic, payload, *properties, expires=False):
+    return (topic, payload, *(properties or ("",) * 5), expires)
 
 
 OLD, WILL = message("a/old", "311"), message("a/will", "gone")
 LATER = message("a/later", "l")
-NEW = message("a/new", "5", "text/plain", "site:3", True)
+NEW = message("a/new", "5", "text/plain", "to/me", "17", "1", "site:3", expires=True)
 PROPERTIES = (
     *("-D", "publish", "content-type", "text/plain"),
+    *("-D", "publish", "response-topic", "to/me"),
+    *("-D", "publish", "correlation-data", "17"),
+    *("-D", "publish", "payload-format-indicator", "1"),
     *("-D", "publish", "user-property", "site", "3"),
-    *("-D", "publish", "message-expiry-interval", "86400"),
+    *("-D", "publish", "message-expiry-interval", str(DAY)),
 )
 
 
@@ -111,10 +127,12 @@ def show(port):
             publish(broker, "a/old", "-r", "-m", "311", version="mqttv311")
             publish(broker, "a/new", "-r", "-m", "5", *PROPERTIES)
             publish(broker, "a/live", "-m", "not retained")
+            publish(broker, "$own/a", "-r", "-m", "not of #")
+            publish_large(broker)
             publish(broker, "a/cleared", "-r", "-m", "x")
             publish(broker, "a/cleared", "-r", "-n")
             last_will(broker)
-            has(server, [OLD, NEW, WILL], "a/#")
+            has(server, [OLD, NEW, WILL], "a/#", "$own/#")
             publish_many(broker)
         # The server is started again, and something was cleared and set meanwhile.
         publish(broker, "a/will", "-r", "-n")
