@@ -27,8 +27,8 @@ impl Gate for Refusing {
 
     ghost mark = { λ gate. record { place = 1; serial = gate.serial; sent = Some [] } };
 
-    fn has_pending(&self) -> bool {
-        false
+    fn pending_count(&self) -> usize {
+        0
     }
 
     fn submit(&mut self, _operation: Operation) -> Result<(), SubmitFault> {
@@ -39,10 +39,6 @@ impl Gate for Refusing {
             self.serial = serial;
         }
         Err(self.fault)
-    }
-
-    fn answer(&mut self, _filter: &TopicFilter, _now: u64) -> Result<Vec<Found>, AllocError> {
-        Err(AllocError)
     }
 
     fn answer_within(

@@ -3,7 +3,7 @@
 //!
 //! - Packets as bytes, streams of which a call fails, and how a fault is shown.
 //! - Operations and origins, made of a few bytes.
-//! - An empty store of versions, and what a seat of it reads.
+//! - An empty store of versions, what a seat of it reads, and the plain catalogue, in a map.
 //! - What one failing call of a connection comes to, as a table, and a gate that refuses all.
 //! - Topics, messages and entries by number, what keeps them, and why a program ends without its answer.
 #![tactic(auto)]
@@ -13,6 +13,7 @@ mod failure;
 mod faults;
 mod gate;
 mod keeper;
+mod map;
 mod packets;
 mod samples;
 mod shown;
@@ -26,6 +27,7 @@ pub use faults::{
 };
 pub use gate::{REFUSING_GATE, Refusing};
 pub use keeper::{Keeper, Outcome};
+pub use map::{MapCatalogue, MapMessages};
 pub use packets::{
     CONNACK, CONNECT, DISCONNECT, REPLAYED, SUBSCRIBED, concat, cut_off, is_concat, limits,
 };

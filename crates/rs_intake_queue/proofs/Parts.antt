@@ -23,7 +23,7 @@ pub part_front : {A : Type 0} (xs ys : List A) → IsPart xs (xs ++ ys)
 part_front [] ys = tt
 part_front (x ∷ xs) ys = inl (refl, part_front xs ys)
 
-part_behind : {A : Type 0} (xs ys : List A) (y : A) → IsPart xs ys → IsPart xs (y ∷ ys)
+pub part_behind : {A : Type 0} (xs ys : List A) (y : A) → IsPart xs ys → IsPart xs (y ∷ ys)
 part_behind [] ys y p = tt
 part_behind (x ∷ xs) ys y p = inr p
 
@@ -70,8 +70,3 @@ part_rises xs ys p rises place = sorted_part (serials_of place xs) (serials_of p
 pub rises_none : SerialsRise []
 unfolding IsStrictlySortedBy
 rises_none place = tt
-
--- what holds of each of two lists
-pub all_append : {A : Type 0} (P : A → Type 0) (xs ys : List A) → AllByRecursion P xs → AllByRecursion P ys → AllByRecursion P (xs ++ ys)
-all_append P [] ys all more = more
-all_append P (x ∷ xs) ys all more = (all.0, all_append P xs ys all.1 more)

@@ -11,13 +11,14 @@ use lib.ListN.{get_elem?}
 use Rattle.crossbeam_channel.specs.Fifo.{Pushes, Pops, Forks, Merges, Learns}
 use Rattle.atomic_table.proofs.Lists.{at_set}
 use Rattle.rs_store.specs.History.{SerialsRise, last_serial}
+use Rattle.rs_store.proofs.Entries.{all_append}
 use Rattle.rs_store.proofs.Histories.{serials_rise_more}
 use Rattle.rs_message.specs.declared.entry.Entry.{Entry}
 use Rattle.rs_intake_queue.specs.declared.rule.PassView.{PassView}
 use Rattle.rs_intake_queue.specs.declared.rule.SentFrom.{SentFrom}
 use Rattle.rs_intake_queue.specs.declared.job.Job.{Job}
 use Rattle.rs_intake_queue.specs.declared.job.Job.TheVariants.{Put, End}
-use Rattle.rs_intake_queue.proofs.Parts.{all_append, part_front, part_rises, rises_none}
+use Rattle.rs_intake_queue.proofs.Parts.{part_front, part_rises, rises_none}
 use Rattle.rs_intake_queue.specs.Changes.{AreOf, AreOfLine}
 use Rattle.rs_intake_queue.specs.QueueRule.{AreAbove, AreEnds, AreLast, AreWhole, Balances, Closes, ClosesLine, ClosesTaker, Delivers, FitsLine, FitsTaker, HoldsNothingOf, IsAbove, IsOf, IsOutside, IsPlaced, Keeps, Sends, SumsUp, Takes, at_place, end_of, ends_of, entries_in, entries_of, job_more, new_line, of_place, one_line_less, one_line_more, spent, taker}
 
@@ -378,7 +379,7 @@ at_place-tail place q xs e = go (q == place) e
     go true e = absurd (cc (e))
     go false e = e
 
-of_place-head : (x : Entry) (xs : List Entry) → of_place x.origin.place (x ∷ xs) ≡ [] → ⊥
+pub of_place-head : (x : Entry) (xs : List Entry) → of_place x.origin.place (x ∷ xs) ≡ [] → ⊥
 of_place-head x xs e = let is : (x.origin.place == x.origin.place) ≡ true = grind (arith, nat_tests) in go (x.origin.place == x.origin.place) is e
   where
     go : (b : Bool) → b ≡ true → cond b (x ∷ of_place x.origin.place xs) (of_place x.origin.place xs) ≡ [] → ⊥
@@ -396,7 +397,7 @@ none_left : {A : Type 0} (xs ys : List A) → xs ++ ys ≡ [] → xs ≡ []
 none_left [] ys e = refl
 none_left (x ∷ xs) ys e = absurd (cc (e))
 
-none_right : {A : Type 0} (xs ys : List A) → xs ++ ys ≡ [] → ys ≡ []
+pub none_right : {A : Type 0} (xs ys : List A) → xs ++ ys ≡ [] → ys ≡ []
 none_right [] ys e = e
 none_right (x ∷ xs) ys e = absurd (cc (e))
 

@@ -124,8 +124,8 @@ impl Lane {
         self.has_served.store(true, Ordering::SeqCst);
     }
 
-    /// Wakes a thread that sleeps, so that it goes on meanwhile.
-    pub(crate) fn hand_on<H: Wait>(&self, rt: &H) {
+    /// Wakes one thread that sleeps, so that it goes on meanwhile.
+    pub(crate) fn wake_one<H: Wait>(&self, rt: &H) {
         if self.asleep.load(Ordering::SeqCst) > 0 {
             // Who is about to sleep does so first.
             drop(self.clients.lock(rt));

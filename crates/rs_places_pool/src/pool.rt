@@ -234,7 +234,7 @@ impl<C: Client<H> + Drop, H: Wait + Copy, W: Watch<C::In> + Drop> Pool<C, H, W> 
             }
         }
         if is_any_alone {
-            lane.hand_on(&self.rt);
+            lane.wake_one(&self.rt);
         }
         is_any_alone
     }

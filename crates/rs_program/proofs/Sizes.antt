@@ -79,11 +79,6 @@ only_digits text before l is no_unit digits letters other parts u =
           absurd (no_unit other (subst (λ t. IsUnit t other) letter u))
     ]
 
--- an empty text has no digits
-pub none_empty : (digits letters : List ℕ) → [] ≡ digits ++ letters → IsNumeral 10 digits → ⊥
-none_empty [] letters e numeral = omega (arith, numeral.0)
-none_empty (d ∷ digits) letters e numeral = cc
-
 -- the digits alone write no more than their bytes
 digits_below : (letters : List ℕ) (number each bytes : ℕ) → IsUnit letters each → number * each ≡ bytes → number ≤ bytes
 digits_below letters number each bytes (inl u) value = let e : number * 1 ≡ bytes = subst (λ k. number * k ≡ bytes) u.1 value in omega arith

@@ -90,7 +90,7 @@ pub fn read_words(alloc: Global, words: &[String]) -> Result<Run, WordsFault>
     };
     match command.try_get_matches_from(words) {
         Ok(matches) => run_of(alloc, &matches),
-        Err(error) => Err(fault_of(alloc, error)),
+        Err(error) => Err(words_fault_of(alloc, error)),
     }
 }
 
@@ -122,7 +122,7 @@ pub(crate) fn refused(alloc: Global, text: &str) -> WordsFault {
 }
 
 /// What is shown for an error of `clap`, which is also how it answers a request for help.
-fn fault_of(alloc: Global, error: clap::Error) -> WordsFault {
+fn words_fault_of(alloc: Global, error: clap::Error) -> WordsFault {
     if error.kind() == ErrorKind::OutOfMemory {
         return WordsFault::NoMemory;
     }

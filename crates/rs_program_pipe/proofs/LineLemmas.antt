@@ -110,6 +110,3 @@ line_end_behind text scanned at within clean found =
 pub no_line_feed : (text : List ℕ) (scanned : ℕ) → has_line_feed (take scanned text) ≡ false → has_line_feed (drop scanned text) ≡ false → has_line_feed text ≡ false
 no_line_feed text scanned before after =
     ap has_line_feed (sym (take-append-drop scanned text)) ∙ list_any-append is_line_feed (take scanned text) (drop scanned text) ∙ (rw (before, after) refl)
-
-pub line_end_within : (text : List ℕ) (end : ℕ) → IsLineEnd text end → end + 1 ≤ length text
-line_end_within text end at = omega (arith, ap length at.split, length-append at.line (10 ∷ at.rest), at.ends)

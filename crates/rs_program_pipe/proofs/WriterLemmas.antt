@@ -1,6 +1,6 @@
 -- Lemmas on text that grows by lines of hex digits.
 use Rattle.std.proofs.Common.{◌≡◌, ℕ, zero, suc, ◌+◌, ◌/◌, ◌%◌, ◌==◌, Bool, true, false, cond, not, List, [], ◌∷◌, ◌++◌, length, take, drop, slice_index, refl, sym, ap, subst, ◌∙◌, append_assoc, append-nil, arith, Option, Some, None, Result, Ok, Err, option_map, MatchResult, IfOk, ◌≤◌, take-append-drop}
-use Rattle.std.proofs.lemmas.Bool.{eqb-true}
+use Rattle.std.proofs.lemmas.Bool.{eqb-true, false_from_ne_true}
 use Rattle.std.proofs.lemmas.List.Elements.{All-head, All-tail, filter-append}
 use Rattle.std.specs.List.{AllPass}
 use Rattle.std.specs.Result.{result_ok}
@@ -17,12 +17,8 @@ use Rattle.rs_program_pipe.proofs.LineLemmas.{lines_of-last}
 
 -- ---- digits are neither spaces nor line feeds
 
-is_false : (b : Bool) → (b ≡ true → ⊥) → b ≡ false
-is_false true h = absurd (h refl)
-is_false false h = refl
-
 other_digit : (d k : ℕ) → is_hex_digit d ≡ true → is_hex_digit k ≡ false → (d == k) ≡ false
-other_digit d k digit none = is_false (d == k) (λ e. let x : true ≡ false = sym digit ∙ ap is_hex_digit (eqb-true d k e) ∙ none in cc x)
+other_digit d k digit none = false_from_ne_true (d == k) (λ e. let x : true ≡ false = sym digit ∙ ap is_hex_digit (eqb-true d k e) ∙ none in cc x)
 
 digits_unchanged : (s : List ℕ) → AllPass is_hex_digit s → without_spaces s ≡ s
 digits_unchanged [] h = refl

@@ -37,11 +37,11 @@ pub fn read_hex(alloc: Global, line: &[u8]) -> Result<Vec<u8>, HexFault>
     };
     match hex::decode(alloc, digits.as_slice()) {
         Ok(bytes) => Ok(bytes),
-        Err(error) => Err(fault_of(error)),
+        Err(error) => Err(hex_fault_of(error)),
     }
 }
 
-fn fault_of(error: FromHexError) -> HexFault
+fn hex_fault_of(error: FromHexError) -> HexFault
     ensures { result ≡ HexFault.NotHex → error ≢ OutOfMemory }
 {
     match error {

@@ -13,7 +13,7 @@ use Rattle.std.specs.declared.cmp.Ordering.TheVariants.{Less, Equal, Greater}
 use Rattle.std.proofs.lemmas.Map.Keys.{sorted_tail}
 use Rattle.std.proofs.lemmas.Map.Entries.{sum_by-insert_entry, sum_by-remove_entry}
 use Rattle.std.proofs.lemmas.List.{length-map}
-use Rattle.std.proofs.lemmas.Bool.Decides.{nat_tests}
+use Rattle.std.proofs.lemmas.Bool.{le-leb, lt-leb}
 use Rattle.rs_topic.specs.Order.{topic_cmp}
 use Rattle.rs_topic.specs.TopicOrder.{topic_total}
 use Rattle.rs_message.specs.Values.{MessageValue}
@@ -52,23 +52,17 @@ remove_le test retained = omega (arith, many retained, many (remove_entry test r
 
 -- ---- as tests
 
-le_true : (m n : ℕ) → m ≤ n → nat_le m n ≡ true
-le_true m n h = grind (arith, nat_tests)
-
-le_false : (m n : ℕ) → n < m → nat_le m n ≡ false
-le_false m n h = grind (arith, nat_tests)
-
 pub space_if_few : (retained : Retained) (k : List ℕ) (v : MessageValue) (limit : ℕ) → IsStrictlySortedBy topic_cmp (keys_of retained) → length retained < limit → nat_le (length (insert_entry topic_cmp retained k v)) limit ≡ true
-space_if_few retained k v limit sorted few = le_true (length (insert_entry topic_cmp retained k v)) limit (omega (arith, few, inserted retained k v (lookup (is_at (topic_cmp k)) retained) refl sorted))
+space_if_few retained k v limit sorted few = le-leb (length (insert_entry topic_cmp retained k v)) limit (omega (arith, few, inserted retained k v (lookup (is_at (topic_cmp k)) retained) refl sorted))
 
 pub space_if_there : (retained : Retained) (k : List ℕ) (v : MessageValue) (limit : ℕ) → IsStrictlySortedBy topic_cmp (keys_of retained) → length retained ≤ limit → is_some (lookup (is_at (topic_cmp k)) retained) ≡ true → nat_le (length (insert_entry topic_cmp retained k v)) limit ≡ true
-space_if_there retained k v limit sorted fits there = le_true (length (insert_entry topic_cmp retained k v)) limit (omega (arith, fits, insert_old retained k v (lookup (is_at (topic_cmp k)) retained) refl sorted there))
+space_if_there retained k v limit sorted fits there = le-leb (length (insert_entry topic_cmp retained k v)) limit (omega (arith, fits, insert_old retained k v (lookup (is_at (topic_cmp k)) retained) refl sorted there))
 
 pub no_space : (retained : Retained) (k : List ℕ) (v : MessageValue) (limit : ℕ) → IsStrictlySortedBy topic_cmp (keys_of retained) → limit ≤ length retained → is_some (lookup (is_at (topic_cmp k)) retained) ≡ false → nat_le (length (insert_entry topic_cmp retained k v)) limit ≡ false
-no_space retained k v limit sorted full new = le_false (length (insert_entry topic_cmp retained k v)) limit (omega (arith, full, insert_new retained k v (lookup (is_at (topic_cmp k)) retained) refl sorted new))
+no_space retained k v limit sorted full new = lt-leb (length (insert_entry topic_cmp retained k v)) limit (omega (arith, full, insert_new retained k v (lookup (is_at (topic_cmp k)) retained) refl sorted new))
 
 pub space_after_clear : (test : List ℕ → Bool) (retained : Retained) (limit : ℕ) → length retained ≤ limit → nat_le (length (remove_entry test retained)) limit ≡ true
-space_after_clear test retained limit fits = le_true (length (remove_entry test retained)) limit (omega (arith, fits, remove_le test retained))
+space_after_clear test retained limit fits = le-leb (length (remove_entry test retained)) limit (omega (arith, fits, remove_le test retained))
 
 pub filter_few : {A : Type 0} (p : A → Bool) (xs : List A) → length (filter p xs) ≤ length xs
 filter_few p [] = omega arith
@@ -79,7 +73,7 @@ filter_few p (x ∷ xs) = at (p x) (filter_few p xs)
     at false few = omega (arith, few)
 
 pub space_after_sweep : (p : List ℕ × MessageValue → Bool) (retained : Retained) (limit : ℕ) → length retained ≤ limit → nat_le (length (filter p retained)) limit ≡ true
-space_after_sweep p retained limit fits = le_true (length (filter p retained)) limit (omega (arith, fits, filter_few p retained))
+space_after_sweep p retained limit fits = le-leb (length (filter p retained)) limit (omega (arith, fits, filter_few p retained))
 
 -- ---- a removal
 

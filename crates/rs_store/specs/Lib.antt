@@ -6,6 +6,5 @@ pub mod Expiring
 pub mod History
 pub mod Law
 pub mod Ledgers
-pub mod Maps
 pub mod Needed
 pub mod Room

@@ -51,7 +51,15 @@ pub trait Catalogue {
     /// Copies of the messages that the filter matches and that are not expired, in the order of replay (section 3.8.4).
     /// `now` is in seconds. Copies share the bytes of topics, texts and payloads. An error if memory is refused.
     fn answer(&self, filter: &TopicFilter, now: u64) -> Result<Vec<Found>, AllocError>
-        ensures { IfOk result (λ found. found.items ≡ answer_in filter.now now (content self.now)) };
+        ensures { IfOk result (λ found. found.items ≡ answer_in filter.now now (content self.now)) }
+    {
+        match self.answer_within(filter, now, usize::MAX) {
+            Ok(Some(found)) => Ok(found),
+            // Never: no list has more items than that.
+            Ok(None) => Err(AllocError),
+            Err(error) => Err(error),
+        }
+    }
 
     /// The same answer if it has at most `room` messages, else `None`. Gives up at the first message beyond the room. An error if
     /// memory is refused.

@@ -4,8 +4,8 @@
 //! A [`Catalogue`] keeps the content of a list of entries: the message of each topic, the last serial of each place and of the writer,
 //! and the number of entries. [`add`] appends one entry or says why not. If a Set is one topic too many, it first appends a Sweep, by
 //! which expired messages free their topics. A [`Calm`] says from which moment on it has to look for them. A [`CalmCatalogue`] is a
-//! catalogue with its calm moment. [`MapCatalogue`] keeps the messages in one ordered map. A catalogue is its messages and a [`Ledger`],
-//! which counts the entries. Its [`Messages`] alone give the answers, so a reader takes them without the ledger.
+//! catalogue with its calm moment. A catalogue is its messages and a [`Ledger`], which counts the entries. Its [`Messages`] alone give the
+//! answers, so a reader takes them without the ledger.
 #![tactic(auto)]
 
 mod answer;
@@ -18,7 +18,6 @@ mod fault;
 mod law;
 mod ledger;
 mod limit;
-mod map;
 mod messages;
 mod size;
 
@@ -32,6 +31,5 @@ pub use fault::Refusal;
 pub use law::{content_law, sweep_law};
 pub use ledger::Ledger;
 pub use limit::{MAX_TOPICS, TOPIC_BYTES, TopicLimit};
-pub use map::{MapCatalogue, MapMessages};
 pub use messages::Messages;
 pub use size::bytes_of;

@@ -2,14 +2,7 @@
 use denote.Param.Send.{IsSend, IsSync, sendable}
 use Rattle.std.proofs.Crossing as std
 use Rattle.rs_tree_branch.proofs.Sent.{branch_send, branch_sync, remains_send, remains_sync}
-use Rattle.rs_tree.specs.contracts.messages.TreeMessages as Messages
 use Rattle.rs_tree.specs.contracts.tree.TreeCatalogue as Tree
-
-pub messages_send : IsSend Messages.the_row
-messages_send = search (branch_send, branch_sync, std.crosses, sendable) depth 60 fits 20000
-
-pub messages_sync : IsSync Messages.the_row
-messages_sync = search (branch_send, branch_sync, std.crosses, sendable) depth 60 fits 20000
 
 pub tree_send : IsSend Tree.the_row
 tree_send = search (branch_send, branch_sync, remains_send, std.crosses, sendable) depth 60 fits 20000

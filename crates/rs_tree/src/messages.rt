@@ -330,20 +330,6 @@ impl TreeMessages {
 impl Messages for TreeMessages {
     ghost retained = { λ m. m };
 
-    fn answer(&self, filter: &TopicFilter, now: u64) -> Result<Vec<Found>, AllocError> {
-        match answers(
-            self.alloc,
-            &self.root,
-            filter,
-            now,
-            self.totals.count as usize,
-        )? {
-            Some(found) => Ok(found),
-            // Never: no answer has more messages than are retained.
-            None => Ok(Vec::new(self.alloc)),
-        }
-    }
-
     fn answer_within(
         &self,
         filter: &TopicFilter,

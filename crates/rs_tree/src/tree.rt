@@ -128,10 +128,6 @@ impl Catalogue for TreeCatalogue {
         self.messages.copy()
     }
 
-    fn answer(&self, filter: &TopicFilter, now: u64) -> Result<Vec<Found>, AllocError> {
-        self.messages.answer(filter, now)
-    }
-
     fn answer_within(
         &self,
         filter: &TopicFilter,

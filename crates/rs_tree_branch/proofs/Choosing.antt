@@ -1,7 +1,8 @@
 -- What a filter chooses of a branch, child by child.
 use Rattle.rs_tree_branch.proofs.Chosen.{goes, stops, all_here, chosen_same, dollar_stops, hash_goes, plain_goes, plus_goes, plus_not_here}
 use Rattle.rs_tree_bucket.proofs.Chosen.{Test, chosen-append}
-use Rattle.std.proofs.Common.{◌≡◌, ℕ, suc, ◌+◌, ◌<◌, ◌≤◌, Bool, true, false, not, ◌&&◌, ◌||◌, List, [], ◌∷◌, ◌++◌, length, get_or, take, drop, refl, sym, ap, subst, ◌∙◌, append_assoc, add-one, Option, Some, None, Result, Ok, Err}
+use Rattle.std.proofs.Common.{◌≡◌, ℕ, suc, ◌+◌, ◌<◌, ◌≤◌, Bool, true, false, not, ◌&&◌, List, [], ◌∷◌, ◌++◌, length, get_or, take, drop, refl, sym, ap, subst, ◌∙◌, append_assoc, add-one, Option, Some, None, Result, Ok, Err}
+use Rattle.std.proofs.lemmas.Bool.{and_parts, or_right}
 use Rattle.std.proofs.lemmas.List.{append-nil, drop_all}
 use Rattle.std.specs.Prelude.{IfErr, OnOk}
 use Rattle.std.specs.Str.{bytes_eq}
@@ -235,16 +236,8 @@ swapped false false c h = refl
 plus_wild : (level : List ℕ) (more : List (List ℕ)) → bytes_eq level (plus ∷ []) ≡ true → is_wild (level ∷ more) ≡ true
 plus_wild level more h = rw h refl
 
-both : (a b : Bool) → (a && b) ≡ true → a ≡ true
-both true b h = refl
-both false b h = absurd (cc (h))
-
-or_right : (a b : Bool) → b ≡ true → (a || b) ≡ true
-or_right true b h = refl
-or_right false b h = h
-
 hash_wild : (level : List ℕ) (more : List (List ℕ)) → fits (level ∷ more) [] ≡ true → is_wild (level ∷ more) ≡ true
-hash_wild level more h = or_right (bytes_eq level (plus ∷ [])) (bytes_eq level (hash ∷ [])) (both (bytes_eq level (hash ∷ [])) (is_end more) h)
+hash_wild level more h = or_right (bytes_eq level (plus ∷ [])) (bytes_eq level (hash ∷ [])) (and_parts (bytes_eq level (hash ∷ [])) (is_end more) h).0
 
 -- a hash
 pub root_all : (pattern : Path) (level : List ℕ) (more : Path) (now : ℕ) (retained : Option Found) (cs : List ChildValue) → IsChunk cs → pattern ≡ level ∷ more → fits (level ∷ more) [] ≡ true

@@ -1,6 +1,7 @@
 -- What a filter chooses of a branch's messages.
 use Rattle.rs_tree_bucket.proofs.Spots.{Spots, Path}
 use Rattle.std.proofs.Common.{◌≡◌, ℕ, Bool, true, false, not, ◌&&◌, List, [], ◌∷◌, refl, sym, ◌∙◌, Option, Some, None}
+use Rattle.std.proofs.lemmas.Bool.{and_parts}
 use Rattle.std.specs.Str.{bytes_eq}
 use Rattle.rs_message.specs.declared.found.Found.{Found}
 use Rattle.rs_topic.specs.Topics.{hash, plus}
@@ -55,10 +56,6 @@ plain_goes pattern k h p = rw h refl
 pub dollar_stops : (pattern : List (List ℕ)) (k : List ℕ) → begins_with_dollar k ≡ true → (p : List (List ℕ)) → is_plain_below pattern (k ∷ p) ≡ false
 dollar_stops pattern k h p = rw h refl
 
-both : (a b : Bool) → (a && b) ≡ true → a ≡ true
-both true b h = refl
-both false b h = absurd (cc (h))
-
 -- no wildcard
 pub root_exact : (pattern : List (List ℕ)) (level : List ℕ) (more : List (List ℕ)) (now : ℕ) (ss : Spots) → pattern ≡ level ∷ more → fits (level ∷ more) [] ≡ false → bytes_eq level (plus ∷ []) ≡ false
     → chosen_at_root pattern now ss ≡ chosen pattern now ss
@@ -82,4 +79,4 @@ root_exact pattern level more now ss whole h is = rw whole (chosen_same (is_matc
     same : (p : List (List ℕ)) → is_matched (level ∷ more) p ≡ fits (level ∷ more) p
     same [] = rw h refl
     same (k ∷ p) = always (fits (level ∷ more) (k ∷ p)) (is_wild (level ∷ more) && begins_with_dollar k)
-        (λ f. rw is (off (bytes_eq level (hash ∷ [])) (begins_with_dollar k) (λ w. dollar_not_hash k w (both (bytes_eq level k) (fits more p) (rw (h, is) at f)))))
+        (λ f. rw is (off (bytes_eq level (hash ∷ [])) (begins_with_dollar k) (λ w. dollar_not_hash k w (and_parts (bytes_eq level k) (fits more p) (rw (h, is) at f)).0)))

@@ -1,7 +1,7 @@
 -- Where a path belongs among the children of a branch.
 use Rattle.rs_tree_branch.proofs.Under.{found_one, level_cmp}
 use Rattle.rs_tree_bucket.proofs.Spots.{Spots, Path}
-use Rattle.std.proofs.Common.{◌≡◌, ◌≢◌, ℕ, zero, suc, ◌+◌, ◌<◌, ◌≤◌, Bool, true, false, List, [], ◌∷◌, ◌++◌, length, get_or, take, drop, refl, sym, ap, subst, ◌∙◌, arith, append_assoc, add-one, Option, Some, None, is_some}
+use Rattle.std.proofs.Common.{◌≡◌, ◌≢◌, ℕ, zero, suc, ◌+◌, ◌<◌, ◌≤◌, Bool, true, false, List, [], ◌∷◌, ◌++◌, length, get_or, take, drop, refl, sym, ap, subst, ◌∙◌, arith, append_assoc, add-one, Option, Some, None}
 use Rattle.std.specs.declared.cmp.Ordering.{Ordering}
 use Rattle.std.specs.declared.cmp.Ordering.TheVariants.{Less, Equal, Greater}
 use Rattle.std.proofs.lemmas.Cmp.{nat_list_cmp_total, tied_itself}
@@ -362,9 +362,6 @@ module _ (q : List ℕ) (cs : List ChildValue) (i j : ℕ) (c : ChildValue) (e :
   index_gap p =
       let moved : IsGap q cs (suc j) = edge_moved (IsNotBefore q) (Passes q) q cs j c (let P : ChildValue → Type 0 = λ w. Passes q w in subst P is p) edge_suc in
       let P : ℕ → Type 0 = λ m. IsGap q cs m in subst P (sym (e ∙ add-one j)) moved
-
-pub gap_first : (q : List ℕ) (cs : List ChildValue) (i : ℕ) → i ≡ 0 → IsEdge (IsNotBefore q) q cs i → IsGap q cs 0
-gap_first q cs i e edge = let P : ℕ → Type 0 = λ m. IsEdge (IsNotBefore q) q cs m in subst P e edge
 
 -- ---- a child that is named
 

@@ -8,7 +8,7 @@ use Rattle.std.specs.declared.cmp.Ordering.TheVariants.{Less, Equal, Greater}
 use Rattle.rs_topic.specs.Order.{path_cmp}
 use Rattle.rs_topic.specs.TopicOrder.{exact_paths, path_total}
 use Rattle.rs_tree_bucket.specs.Spots.{IsFull, under}
-use Rattle.rs_tree_branch.proofs.Stems.{full_below}
+use Rattle.rs_tree_branch.proofs.Stems.{full_under}
 use Rattle.rs_tree_branch.specs.Chunks.{AreHalves, IsBefore, IsChunk, IsFrom, IsUpTo, parts}
 use Rattle.rs_tree_branch.specs.Values.{ChildValue}
 use Rattle.rs_tree_bucket.proofs.Spots.{Spots, Path}
@@ -20,9 +20,6 @@ use Rattle.rs_tree_branch.proofs.Chunks.{IsReached, back, between, level_not, pa
 pub from_under : (k : List ℕ) (w : Spots) → IsFrom k (under k w)
 from_under k [] = tt
 from_under k (s ∷ w) = (takes_reached false k k s.0 refl, from_under k w)
-
-pub full_under : (k : List ℕ) (w : Spots) → IsFull w → IsFull (under k w)
-full_under k w full = full_below (k ∷ []) w full
 
 pub chunk_single : (k : List ℕ) (w : Spots) (c : ChildValue) (cs : List ChildValue) → cs ≡ c ∷ [] → c.level ≡ k → c.spots ≡ under k w → IsFull w → IsChunk cs
 chunk_single k w c cs one lv is full = rw (one, lv, is) (full_under k w full, from_under k w, tt, tt)

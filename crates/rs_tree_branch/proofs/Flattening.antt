@@ -1,11 +1,9 @@
 -- Chunks whose children stand in their place.
-use Rattle.std.proofs.Common.{◌≡◌, ◌≢◌, ℕ, false, Option, Some, None, is_some, ◌+◌, ◌<◌, ◌≤◌, List, [], ◌∷◌, ◌++◌, length, get_or, take, refl, sym, ap, subst, ◌∙◌, append_assoc}
+use Rattle.std.proofs.Common.{◌≡◌, ◌≢◌, ℕ, ◌+◌, ◌<◌, ◌≤◌, List, [], ◌∷◌, ◌++◌, length, get_or, take, sym, ap, subst, ◌∙◌, append_assoc}
 use Rattle.std.proofs.lemmas.List.{take_more}
 use Rattle.std.specs.declared.cmp.Ordering.TheVariants.{Less}
 use Rattle.rs_tree_branch.specs.Chunks.{IsChunk, IsUpTo, parts}
-use Rattle.rs_tree_branch.specs.Spots.{own}
 use Rattle.rs_tree_branch.specs.Values.{ChildValue}
-use Rattle.rs_message.specs.declared.found.Found.{Found}
 use Rattle.rs_tree_branch.proofs.Dividing.{up_to_both, up_to_wider}
 use Rattle.rs_tree_branch.proofs.Leaving.{parts_push, take_whole, up_to_at}
 use Rattle.rs_tree_branch.proofs.Chunks.{level_not}
@@ -27,7 +25,3 @@ flat_more w flat new cs i c small is so more =
 
 pub flat_end : (w : Spots) (flat cs : List ChildValue) (i : ℕ) → length cs ≤ i → parts flat ≡ w ++ parts (take i cs) → parts flat ≡ w ++ parts cs
 flat_end w flat cs i all so = so ∙ ap (λ (l : List ChildValue). w ++ parts l) (take_whole cs i all)
-
-pub own_none : (retained : Option Found) → is_some retained ≡ false → own retained ≡ []
-own_none None none = refl
-own_none (Some f) none = absurd (cc (none))

@@ -14,7 +14,8 @@ use Rattle.rs_tree_branch.proofs.Ends.{swept_chain, pairs_end}
 use Rattle.rs_tree_branch.specs.Chunks.{IsBefore, IsChunk, IsFrom, IsLeft, IsUpTo, parts}
 use Rattle.rs_tree_branch.specs.Rests.{IsRestOf}
 use Rattle.rs_tree_branch.specs.Values.{ChildValue}
-use Rattle.rs_tree_branch.proofs.Dividing.{chunk_take, full_parts, full_under, up_to_all, up_to_front, up_to_rear}
+use Rattle.rs_tree_branch.proofs.Dividing.{chunk_take, full_parts, up_to_all, up_to_front, up_to_rear}
+use Rattle.rs_tree_branch.proofs.Stems.{full_under}
 use Rattle.rs_message.specs.Messages.{is_expired}
 use Rattle.rs_store.specs.Contents.{is_gone}
 use Rattle.rs_store.proofs.Expiring.{calm_until}
@@ -179,9 +180,6 @@ something_below None (c ∷ cs) r more = at (parts (c ∷ cs)) (full_parts (c �
     at [] full = absurd full
     at (s ∷ w) full = refl
 
-pub branch_left : (moment : ℕ) (retained retained' : Option Found) (cs cs' : List ChildValue) → own retained' ≡ filter (spot_stays moment) (own retained) → parts cs' ≡ filter (spot_stays moment) (parts cs) → own retained' ++ parts cs' ≡ filter (spot_stays moment) (own retained ++ parts cs)
-branch_left moment retained retained' cs cs' a b = ap (λ (w : Spots). w ++ parts cs') a ∙ (ap (λ (w : Spots). filter (spot_stays moment) (own retained) ++ w) b ∙ sym (filter-append (spot_stays moment) (own retained) (parts cs)))
-
 -- ---- before the first moment at which one is expired, all stay
 
 none_goes : (moment : ℕ) (w : Spots) → length (filter (is_gone moment) (pairs w)) ≡ 0 → filter (spot_stays moment) w ≡ w
@@ -211,13 +209,6 @@ nothing_by retained cs n r none size = at (n == 0) refl
 pub level_left : (moment : ℕ) (k k' : List ℕ) (w w' : Spots) → k' ≡ k → w' ≡ filter (spot_stays moment) w → IsFull w' → (k' ≡ k) × (under k' w' ≡ filter (spot_stays moment) (under k w)) × IsFull (under k' w')
 level_left moment k k' w w' same is full = rw same (refl, chain_left moment (k ∷ []) w w' is, full_under k w' full)
 
-pub chunk_left : (moment : ℕ) (k k' : List ℕ) (w w' v : Spots) → k' ≡ k → v ≡ w' → w' ≡ filter (spot_stays moment) w → IsFull w' → (k' ≡ k) × (v ≡ filter (spot_stays moment) w) × IsFull v
-chunk_left moment k k' w w' v same put is full = rw put (same, is, full)
-
 -- a child that is put into another shape
 pub joined_left : (moment : ℕ) (c d e : ChildValue) → e.level ≡ d.level → e.spots ≡ d.spots → IsLeft moment c (Some d) → IsLeft moment c (Some e)
 joined_left moment c d e same is h = (same ∙ h.0, is ∙ h.1, let P : Spots → Type 0 = λ w. IsFull w in subst P (sym is) h.2)
-
--- no message of a branch goes if none of its own and none of its children goes
-pub whole_stays : (moment : ℕ) (retained : Option Found) (cs : List ChildValue) → filter (spot_stays moment) (own retained) ≡ own retained → filter (spot_stays moment) (parts cs) ≡ parts cs → filter (spot_stays moment) (own retained ++ parts cs) ≡ own retained ++ parts cs
-whole_stays moment retained cs a b = filter-append (spot_stays moment) (own retained) (parts cs) ∙ (ap (λ (w : Spots). w ++ filter (spot_stays moment) (parts cs)) a ∙ ap (λ (w : Spots). own retained ++ w) b)

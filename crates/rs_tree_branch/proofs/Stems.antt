@@ -24,7 +24,7 @@ use Rattle.rs_topic.proofs.Rests.{fits_on, fits_not}
 
 -- ---- whether there is anything
 
-full_under : (k : List ℕ) (w : Spots) → IsFull w → IsFull (under k w)
+pub full_under : (k : List ℕ) (w : Spots) → IsFull w → IsFull (under k w)
 full_under k [] f = f
 full_under k (s ∷ ss) f = tt
 

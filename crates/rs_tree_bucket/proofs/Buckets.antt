@@ -257,14 +257,6 @@ one_found q p g there = at (path_cmp q p) refl
     at Equal is = rw is refl
     at Greater is = absurd (cc (rw is at there))
 
-pub one_missing : (q p : Path) (g : Found) → is_there q ((p, g) ∷ []) ≡ false → None ≡ found_at q ((p, g) ∷ [])
-one_missing q p g none = at (path_cmp q p) refl
-  where
-    at : (o : Ordering) → path_cmp q p ≡ o → None ≡ found_at q ((p, g) ∷ [])
-    at Less is = rw is refl
-    at Equal is = absurd (cc (rw is at none))
-    at Greater is = rw is refl
-
 -- ---- one step of a loop over the leaves, as the goals say it
 
 module _ (ls : List Leaf) (i : ℕ) (l : Leaf) (small : i < length ls) (is : l ≡ get_or ls i l) where

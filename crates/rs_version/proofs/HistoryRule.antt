@@ -1,5 +1,5 @@
 -- Each step on the word of a history keeps its rule.
-use Rattle.std.proofs.Common.{◌≡◌, ⊎_elim, ℕ, zero, suc, ◌+◌, ◌<◌, ◌≤◌, ◌==◌, Bool, true, false, List, [], ◌∷◌, ◌++◌, length, slice_set, refl, ap, sym, subst, ◌∙◌, arith, inl, le_trans, length-append, length-set, get_or-set_same, get_or-set_other, append-nil, None}
+use Rattle.std.proofs.Common.{◌≡◌, ⊎_elim, ℕ, ◌+◌, ◌<◌, ◌≤◌, ◌==◌, Bool, true, false, List, [], ◌∷◌, ◌++◌, length, slice_set, refl, ap, sym, subst, ◌∙◌, arith, inl, le_trans, length-append, length-set, get_or-set_same, get_or-set_other, append-nil, None}
 use Rattle.std.proofs.lemmas.Bool.{both_ways, cases_eq, cases_lt}
 use Rattle.std.proofs.lemmas.Bool.Decides.{nat_tests}
 use Rattle.std.proofs.lemmas.List.{get_or_append_left}
@@ -109,15 +109,6 @@ one_used cells log e key is here rights =
       made = omega (arith, long, is, here, length-append log (e ∷ []));
       unused = unused_entry cells log e key is rights.unused;
     }
-
--- no right was made yet
-none_away : (key : ℕ) → key < 2 → (cell ((0, true) ∷ (0, true) ∷ []) key).1 ≡ false → ⊥
-none_away zero here away = both_ways true away refl
-none_away (suc zero) here away = both_ways true away refl
-none_away (suc (suc key)) here away = omega (arith, here)
-
-pub first_rights : AreRights ((0, true) ∷ (0, true) ∷ []) []
-first_rights = record { count = refl; made = omega arith; unused = λ key here away. absurd (none_away key here away) }
 
 -- ---- the steps
 

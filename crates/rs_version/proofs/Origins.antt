@@ -1,7 +1,5 @@
 -- An origin stands at one number of a legal list at most.
-use Rattle.std.proofs.Common.{◌≡◌, ◌==◌, ℕ, suc, ◌<◌, Bool, true, false, cond, List, [], ◌∷◌, ◌++◌, length, map, refl, sym, ap, subst, ◌∙◌, inl, inr, arith}
-use Rattle.std.specs.Cmp.{ranked}
-use Rattle.std.specs.List.{filter}
+use Rattle.std.proofs.Common.{◌≡◌, ◌==◌, ℕ, suc, Bool, true, false, List, [], ◌∷◌, ◌++◌, length, refl, sym, ap, subst, ◌∙◌, inl, inr, arith}
 use Rattle.std.specs.List.Sorted.{IsStrictlySortedBy}
 use Rattle.std.specs.Ordering.{nat_cmp}
 use Rattle.std.specs.declared.cmp.Ordering.TheVariants.{Less}
@@ -11,15 +9,8 @@ use Rattle.rs_message.specs.Values.{OriginValue}
 use Rattle.rs_message.specs.declared.entry.Entry.{Entry}
 use Rattle.rs_store.specs.History.{IsLegal, serials_of}
 use Rattle.rs_store.proofs.Entries.{Among, all_among}
+use Rattle.rs_store.proofs.Histories.{below_itself, serials_first}
 use Rattle.rs_version.specs.Receipts.{StandsAt}
-
-below_itself : (n : ℕ) → nat_cmp n n ≡ Less → ⊥
-below_itself n h = let less : n < n = ranked n n Less (sym h) in omega (arith, less)
-
-serials_first : (place : ℕ) (first : Entry) (rest : List Entry) (b : Bool) → (first.origin.place == place) ≡ b
-    → serials_of place (first ∷ rest) ≡ cond b (first.origin.serial ∷ serials_of place rest) (serials_of place rest)
-serials_first place first rest true e = ap (λ (b : Bool). map (λ (x : Entry). x.origin.serial) (cond b (first ∷ filter (λ (x : Entry). x.origin.place == place) rest) (filter (λ (x : Entry). x.origin.place == place) rest))) e
-serials_first place first rest false e = ap (λ (b : Bool). map (λ (x : Entry). x.origin.serial) (cond b (first ∷ filter (λ (x : Entry). x.origin.place == place) rest) (filter (λ (x : Entry). x.origin.place == place) rest))) e
 
 -- the serials of a place rise in the rest of a list too
 rest_rises : (place : ℕ) (x : Entry) (xs : List Entry) → IsStrictlySortedBy nat_cmp (serials_of place (x ∷ xs)) → IsStrictlySortedBy nat_cmp (serials_of place xs)

@@ -2,13 +2,13 @@
 use mathlib.Core.List.{List, [], ◌∷◌}
 use Prim.Native.Nat.{ℕ}
 use mir.Syntax.{Ty}
-use denote.Builtin.{u32, u64}
+use denote.Builtin.{u64}
 use denote.Exit.{no}
 use denote.RattleType.{RattleType}
 use denote.Param.{param, arg}
 use denote.Param.Send.{IsSend, IsSync, AllSend, arg_send, param_send, recorded_send, recorded_sync, sendable, struct_send, struct_sync, view_send}
 use denote.Struct.Declared.{shape}
-use denote.Struct.Field.{bool-field, rows, u64-field}
+use denote.Struct.Field.{rows, u64-field}
 use denote.Struct.Tuple.{Tuple, TupleAt, field_at, parts, type_at}
 use Rattle.core.proofs.option.Option.TheSendSync as option
 use Rattle.core.specs.contracts.option.Option as Option
@@ -94,12 +94,6 @@ module _ (N : RattleType) (g : StoreName.Ghosts N.Denot) where
           ),
         )))
 
-pub bool_send : IsSend bool-field.row
-bool_send = search sendable
-
-pub u32_send : IsSend u32
-u32_send = search sendable
-
 pub u64_send : IsSend u64
 u64_send = search sendable
 
@@ -127,12 +121,3 @@ parts_send-3 {i} {δ} name {A} {B} {C} a b c = all_send i δ name (A ∷ B ∷ C
 
 pub parts_send-4 : {i : ℕ} {δ : Ty} (name : List ℕ) {A B C D : RattleType} → IsSend A → IsSend B → IsSend C → IsSend D → IsSend (param i (arg δ no (TupleAt name (A ∷ B ∷ C ∷ D ∷ []))))
 parts_send-4 {i} {δ} name {A} {B} {C} {D} a b c d = all_send i δ name (A ∷ B ∷ C ∷ D ∷ []) (a, (b, (c, (d, tt))))
-
-pub parts_send-5 : {i : ℕ} {δ : Ty} (name : List ℕ) {A B C D E : RattleType} → IsSend A → IsSend B → IsSend C → IsSend D → IsSend E
-    → IsSend (param i (arg δ no (TupleAt name (A ∷ B ∷ C ∷ D ∷ E ∷ []))))
-parts_send-5 {i} {δ} name {A} {B} {C} {D} {E} a b c d e = all_send i δ name (A ∷ B ∷ C ∷ D ∷ E ∷ []) (a, (b, (c, (d, (e, tt)))))
-
-pub parts_send-8 : {i : ℕ} {δ : Ty} (name : List ℕ) {A B C D E F G H : RattleType} → IsSend A → IsSend B → IsSend C → IsSend D → IsSend E → IsSend F → IsSend G → IsSend H
-    → IsSend (param i (arg δ no (TupleAt name (A ∷ B ∷ C ∷ D ∷ E ∷ F ∷ G ∷ H ∷ []))))
-parts_send-8 {i} {δ} name {A} {B} {C} {D} {E} {F} {G} {H} a b c d e f g h =
-    all_send i δ name (A ∷ B ∷ C ∷ D ∷ E ∷ F ∷ G ∷ H ∷ []) (a, (b, (c, (d, (e, (f, (g, (h, tt))))))))

@@ -1,12 +1,9 @@
 -- Entries fit behind a list if there is space for a topic for each.
-use Rattle.std.proofs.Common.{◌≡◌, ℕ, ◌+◌, ◌<◌, ◌≤◌, ◌^◌, ◌==◌, Bool, true, false, cond, List, [], ◌∷◌, ◌++◌, length, map, sym, ap, subst, ◌∙◌, append_assoc, append-nil, arith, Less}
-use Rattle.std.specs.List.{AllByRecursion, filter}
+use Rattle.std.proofs.Common.{◌≡◌, ℕ, ◌+◌, ◌<◌, ◌≤◌, ◌^◌, Bool, true, false, cond, List, [], ◌∷◌, ◌++◌, length, sym, subst, append_assoc, append-nil, arith}
 use Rattle.std.specs.Map.{remove_entry}
 use Rattle.std.specs.BTreeMap.{is_at}
 use Rattle.std.specs.Ordering.{nat_cmp}
 use Rattle.std.specs.List.Sorted.{IsStrictlySortedBy}
-use Rattle.std.proofs.lemmas.List.{map-append}
-use Rattle.std.proofs.lemmas.List.Elements.{filter-append}
 use Rattle.rs_topic.specs.Order.{topic_cmp}
 use Rattle.rs_message.specs.Values.{MessageValue}
 use Rattle.rs_message.specs.declared.entry.Entry.{Entry}
@@ -15,6 +12,8 @@ use Rattle.rs_message.specs.declared.entry.Operation.TheVariants.{Set, Clear, Sw
 use Rattle.rs_store.specs.Contents.{Accepts, after, followed, stays}
 use Rattle.rs_store.specs.History.{IsLegal, SerialsRise, Stands, extended, serials_of}
 use Rattle.rs_store.specs.declared.content.Content.{Content}
+use Rattle.rs_store.proofs.Histories.{serials_of-append, sorted_front}
+use Rattle.rs_store.proofs.Maps.{filter_few}
 use Rattle.rs_store.proofs.Standing.{rising_is_new, stands_more}
 use Rattle.rs_version.specs.Space.{HasSpaceFor, HaveOrigins}
 use Rattle.rs_version.proofs.First.{insert_one}
@@ -27,33 +26,15 @@ remove_none : {K X : Type 0} (test : K → Bool) (es : List (K × X)) → length
 remove_none test [] = omega arith
 remove_none test (e ∷ es) = (shorter_by (test e.0) e es (remove_entry test es) (remove_none test es)).0
 
-filter_none : {A : Type 0} (p : A → Bool) (xs : List A) → length (filter p xs) ≤ length xs
-filter_none p [] = omega arith
-filter_none p (x ∷ xs) = (shorter_by (p x) x xs (filter p xs) (filter_none p xs)).1
-
 -- an operation adds a topic at most
 after_one : (retained : List (List ℕ × MessageValue)) (o : Operation) → length (after retained o) ≤ length retained + 1
 after_one retained (Set found) = insert_one topic_cmp retained found.topic found.message
 after_one retained (Clear topic) = omega (arith, remove_none (is_at (topic_cmp topic)) retained)
-after_one retained (Sweep moment) = omega (arith, filter_none (stays moment) retained)
-
-sorted_front : (xs ys : List ℕ) → IsStrictlySortedBy nat_cmp (xs ++ ys) → IsStrictlySortedBy nat_cmp xs
-unfolding IsStrictlySortedBy
-sorted_front [] ys sorted = tt
-sorted_front (x ∷ xs) ys sorted = (below xs sorted.0, sorted_front xs ys sorted.1)
-  where
-    below : (zs : List ℕ) → AllByRecursion (λ y. nat_cmp x y ≡ Less) (zs ++ ys) → AllByRecursion (λ y. nat_cmp x y ≡ Less) zs
-    below [] all = tt
-    below (z ∷ zs) all = (all.0, below zs all.1)
-
-serials_both : (place : ℕ) (xs ys : List Entry) → serials_of place (xs ++ ys) ≡ serials_of place xs ++ serials_of place ys
-serials_both place xs ys =
-    let p : Entry → Bool = λ e. e.origin.place == place in
-    ap (λ w. map (λ (e : Entry). e.origin.serial) w) (filter-append p xs ys) ∙ map-append (λ (e : Entry). e.origin.serial) (filter p xs) (filter p ys)
+after_one retained (Sweep moment) = omega (arith, filter_few (stays moment) retained)
 
 rises_front : (front rest : List Entry) → SerialsRise (front ++ rest) → SerialsRise front
 rises_front front rest rises = λ place.
-    sorted_front (serials_of place front) (serials_of place rest) (subst (IsStrictlySortedBy nat_cmp) (serials_both place front rest) (rises place))
+    sorted_front (serials_of place front) (serials_of place rest) (subst (IsStrictlySortedBy nat_cmp) (serials_of-append place front rest) (rises place))
 
 fit : (c : Content) (history entries : List Entry) → Stands c history → SerialsRise (history ++ entries) → HaveOrigins entries
     → length c.retained + length entries ≤ c.limit → c.version + length entries < 2 ^ 64 → IsLegal c.limit (history ++ entries)

@@ -1,6 +1,6 @@
 -- Each step keeps the rule of the published copy.
-use Rattle.std.proofs.Common.{◌≡◌, ◌≢◌, ℕ, zero, suc, ◌≤◌, List, [], ◌∷◌, ◌++◌, length, set, Option, Some, None, refl, sym, ap, subst, ◌∙◌, ⊎_elim, arith, fold}
-use mathlib.Core.Option.{some, some-injective, some-ne-none}
+use Rattle.std.proofs.Common.{◌≡◌, ◌≢◌, ℕ, ◌≤◌, List, [], ◌∷◌, ◌++◌, length, set, Option, Some, None, refl, sym, ap, subst, ◌∙◌, ⊎_elim, arith, fold}
+use mathlib.Core.Option.{some}
 use lib.ListN.{get_elem?}
 use Rattle.crossbeam_utils.specs.Register.{Admits, TurnsAt, Forks, Merges}
 use Rattle.atomic_table.proofs.Lists.{at_set, at_snoc}
@@ -84,10 +84,3 @@ merges seat v other w x views h at apart there =
           (at_set views seat j w (Some u) t.1))
           (at_set (set views seat w) other j None (Some u) e),
     )
-
-pub first_alone : (x : CatalogueCopy) → IsSound x → Keeps x (None ∷ [])
-first_alone x sound = (sound, λ seat u e. absurd (nothing seat u e))
-  where
-    nothing : (seat : ℕ) (u : KnownVersion) → get_elem? (None ∷ []) seat ≡ some (Some u) → ⊥
-    nothing zero u e = let e' : None ≡ Some u = some-injective None (Some u) e in cc (e')
-    nothing (suc seat) u e = some-ne-none (Some u) (sym e)

@@ -1,13 +1,13 @@
 -- Lemmas on the identifiers in use.
-use Rattle.std.proofs.Common.{◌≡◌, ◌≢◌, ◌⊎◌, ℕ, zero, suc, ◌+◌, ◌-◌, ◌<◌, Bool, true, false, List, [], ◌∷◌, get_or, Option, Some, None, IsSome, OnSome, is_some, cond, count_by, refl, sym, ap, subst, ◌∙◌, inl, inr, arith}
-use Rattle.std.proofs.lemmas.Bool.{cases_eq}
+use Rattle.std.proofs.Common.{◌≡◌, ◌≢◌, ◌⊎◌, ℕ, zero, suc, ◌+◌, ◌-◌, ◌<◌, true, false, List, [], ◌∷◌, get_or, Option, Some, None, IsSome, OnSome, is_some, cond, count_by, refl, sym, ap, subst, ◌∙◌, inl, inr, arith}
+use Rattle.std.proofs.lemmas.Bool.{cases_eq, false_from_ne_true}
 use Rattle.std.proofs.lemmas.Bool.Decides.{Decides-eqb}
 use Rattle.std.proofs.lemmas.List.Sums.{sum_by-cons}
 use Rattle.std.specs.Ordering.{nat_cmp, eq_by_cmp}
 use Rattle.std.specs.Cmp.{unsigned_tied}
 use Rattle.std.proofs.lemmas.Cmp.{nat_cmp_total}
 use Rattle.std.specs.FinMap.{get, insert, remove, len, from_entries, find, get-from_entries, get-insert, get-remove, len-insert, len-empty, same_map, nat_cmp-IsAntisymmetric}
-use Rattle.slab.specs.Slab.{Slab, entries_from, slab_len, Updates, with_value}
+use Rattle.slab.specs.Slab.{Slab, entries_from, slab_len, Updates}
 use Rattle.slab.specs.Slab as slab
 use Rattle.rs_window.specs.declared.identifiers.Kind.{Kind}
 use Rattle.rs_window.specs.Identifiers.{Kinds, kinds_of}
@@ -16,12 +16,8 @@ use Rattle.rs_window.specs.Identifiers.{Kinds, kinds_of}
 pub same_number : (m n : ℕ) → m ≡ n → eq_by_cmp nat_cmp m n ≡ true
 same_number m n e = unsigned_tied m n ∙ (Decides-eqb m n).1 e
 
-not_true : (b : Bool) → (b ≡ true → ⊥) → b ≡ false
-not_true true h = absurd (h refl)
-not_true false h = refl
-
 pub other_number : (m n : ℕ) → m ≢ n → eq_by_cmp nat_cmp m n ≡ false
-other_number m n e = not_true _ (λ t. e ((Decides-eqb m n).0 (sym (unsigned_tied m n) ∙ t)))
+other_number m n e = false_from_ne_true _ (λ t. e ((Decides-eqb m n).0 (sym (unsigned_tied m n) ∙ t)))
 
 -- below the first key nothing is found
 pub find_below : (q first : ℕ) (slots : List (Option Kind)) → q < first → find nat_cmp q (entries_from first slots) ≡ None

@@ -1,6 +1,7 @@
 -- Lemmas on messages that wait.
 use Rattle.std.specs.Prelude.{is_some, map}
 use Rattle.std.proofs.Common.{◌≡◌, ◌⊎◌, ℕ, ◌<◌, ◌≤◌, ◌^◌, ◌||◌, List, [], ◌∷◌, ◌++◌, length, Option, Bool, true, false, cond, nat_lt, refl, sym, ap, subst, ◌∙◌, inl, inr, arith}
+use Rattle.std.proofs.lemmas.Bool.{or_right}
 use Rattle.std.proofs.lemmas.Bool.Decides.{nat_tests}
 use Rattle.rs_message.specs.declared.qos.Qos.{Qos}
 use Rattle.rs_message.specs.declared.qos.Qos.TheVariants as qos
@@ -18,7 +19,7 @@ use Rattle.rs_message.specs.Messages.{remaining_of, is_over}
 use Rattle.rs_message.specs.declared.found.Found.{Found}
 use Rattle.rs_window.specs.declared.waiting.Waiting.{Waiting}
 use Rattle.rs_window.specs.Fields.{NeedNone}
-use Rattle.rs_window.specs.Waiting.{is_dropped, granted_at, sendable, lesser, lesser_qos, some_id, len_with, packet_len, IsDropped}
+use Rattle.rs_window.specs.Waiting.{is_dropped, granted_at, sendable, lesser_qos, some_id, len_with, packet_len, IsDropped}
 
 pub some_id_fits : (quality : Qos) → IdFits quality (some_id quality)
 some_id_fits qos.AtMostOnce = tt
@@ -59,16 +60,12 @@ dropped_by r packet_maximum size false e h = inr (grind (arith, nat_tests))
 pub drops : (packet_maximum now : ℕ) (w : Waiting) → is_dropped packet_maximum now w ≡ true → IsDropped packet_maximum now w
 drops packet_maximum now w h = dropped_by (remaining_of w.found.message now) packet_maximum (packet_len now w) _ refl h
 
-or_true : (a b : Bool) → b ≡ true → (a || b) ≡ true
-or_true true b e = refl
-or_true false b e = e
-
 -- what the test does not drop may not be dropped
 pub keeps : (packet_maximum now : ℕ) (w : Waiting) → is_dropped packet_maximum now w ≡ false → IsDropped packet_maximum now w → ⊥
 keeps packet_maximum now w h (inl e) = let t : true ≡ false = sym (ap (λ (r : Remaining). is_over r || nat_lt packet_maximum (packet_len now w)) e) ∙ h in cc
 keeps packet_maximum now w h (inr less) =
     let t : nat_lt packet_maximum (packet_len now w) ≡ true = grind (arith, nat_tests) in
-    let all : is_dropped packet_maximum now w ≡ true = or_true (is_over (remaining_of w.found.message now)) _ t in
+    let all : is_dropped packet_maximum now w ≡ true = or_right (is_over (remaining_of w.found.message now)) _ t in
     let wrong : true ≡ false = sym all ∙ h in cc
 
 -- ---- what still waits
@@ -117,18 +114,6 @@ sendable_none packet_maximum now (w ∷ ws) none = by_case (is_dropped packet_ma
     by_case : (b : Bool) → NeedNone (sendable packet_maximum now ws) → NeedNone (cond b (sendable packet_maximum now ws) (w ∷ ws))
     by_case true h = h
     by_case false h = none
-
-least : (published granted : Qos) → granted ≡ qos.AtMostOnce → lesser published granted ≡ qos.AtMostOnce
-least qos.AtMostOnce qos.AtMostOnce is = refl
-least qos.AtLeastOnce qos.AtMostOnce is = refl
-least qos.ExactlyOnce qos.AtMostOnce is = refl
-least published qos.AtLeastOnce is = absurd (cc (is))
-least published qos.ExactlyOnce is = absurd (cc (is))
-
--- the first of them is sent at QoS 0
-pub first_at_zero : (w : Waiting) (ws rest : List Waiting) → ws ≡ w ∷ rest → NeedNone ws → lesser_qos w ≡ qos.AtMostOnce
-first_at_zero w [] rest is none = absurd (cc (is))
-first_at_zero w (v ∷ vs) rest is none = let same : v ≡ w = cc (is) in subst (λ (x : Waiting). lesser_qos x ≡ qos.AtMostOnce) same (least v.found.message.qos v.granted none.0)
 
 -- what stands behind the first
 pub rest_none : (w : Waiting) (ws rest : List Waiting) → ws ≡ w ∷ rest → NeedNone ws → NeedNone rest

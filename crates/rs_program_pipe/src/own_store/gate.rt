@@ -4,7 +4,7 @@ ghost use Rattle.std.specs.Prelude.{◌≡◌, ◌↔◌, [], false, None, IfOk,
 ghost use Rattle.std.specs.Option.{option_map};
 ghost use Rattle.rs_message.specs.Messages.{is_sweep};
 ghost use Rattle.rs_store.specs.Contents.{IsAdded, empty};
-ghost use Rattle.rs_store.specs.History.{IsAnswer, IsAnswerWithin};
+ghost use Rattle.rs_store.specs.History.{IsAnswerWithin};
 ghost use Rattle.rs_session.specs.Gate.{Grows, SendsAtMost, Submits, Uses, entry_by};
 ghost use Rattle.rs_session.specs.Local.{local_mark, next_entry, IsFull, IsLeft};
 ghost use Rattle.rs_program_pipe.specs.OwnStores.{IsOwn, content_of};
@@ -42,8 +42,8 @@ impl Gate for OwnGate {
     ghost mark = { λ gate. local_mark (content_of gate) };
 
     /// It sends nothing ahead.
-    fn has_pending(&self) -> bool {
-        false
+    fn pending_count(&self) -> usize {
+        0
     }
 
     /// `Full` if no serial is left or the store has no space, `NoMemory` if memory is refused. A Set for which a Sweep makes space is
@@ -59,23 +59,10 @@ impl Gate for OwnGate {
         ensures done { OnOk result (IsAdded (content_of self.old) (next_entry (content_of self.old) operation) (content_of self.new)) }
         ensures refused { IfErr result (λ fault. IsLeft (content_of self.old) operation fault (content_of self.new)) }
     {
-        // For the proof, which goes case by case. So do the answers below.
+        // For the proof, which goes case by case. So does the answer below.
         match self.gate.submit(operation) {
             Ok(()) => Ok(()),
             Err(fault) => Err(fault),
-        }
-    }
-
-    /// Fails only if memory is refused. The store stays as it is.
-    fn answer(&mut self, filter: &TopicFilter, now: u64) -> Result<Vec<Found>, AllocError>
-        ensures list { Grows (IsOwn (content_of self.old)) (IsOwn (content_of self.new))
-            (λ seen list. IfOk result (λ found. IsAnswer list filter.now now found.items)) }
-        ensures mark { local_mark (content_of self.new) ≡ local_mark (content_of self.old) }
-        ensures same { content_of self.new ≡ content_of self.old }
-    {
-        match self.gate.answer(filter, now) {
-            Ok(found) => Ok(found),
-            Err(error) => Err(error),
         }
     }
 

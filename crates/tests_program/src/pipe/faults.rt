@@ -2,13 +2,13 @@
 //! program's store and over a bare gate.
 
 use kit_test::{
-    Behavior, CONNACK, Call, FAULTS, FIRST, FIRST_REPLIES, Fault, FaultyStream, SECOND,
-    ServeResult, cut_off, first_written, is_concat, second_replies,
+    Behavior, CONNACK, Call, FAULTS, FIRST, FIRST_REPLIES, Fault, FaultyStream, MapCatalogue,
+    SECOND, ServeResult, cut_off, first_written, is_concat, second_replies,
 };
 use rs_program_pipe::OwnGate;
 use rs_server::{ConnectionId, Counted, Moments, Served, serve};
 use rs_session::{Gate, LocalGate};
-use rs_store::{MapCatalogue, TopicLimit};
+use rs_store::TopicLimit;
 use std::alloc::Global;
 use std::process::Abort;
 use std::sync::Wait;

@@ -13,6 +13,6 @@ pub returns-clause-not_hex : goal.returns-clause-not_hex
 returns-clause-not_hex c = λ e.
     let digits = c.as_slice.ensures.value ∙ c.in-Ok.ensures in
     elim c.in-Err.ensures.err [
-      | inl memory ↦ absurd (c.fault_of.ensures e memory)
+      | inl memory ↦ absurd (c.hex_fault_of.ensures e memory)
       | inr bad ↦ sym (ap bytes_of_digits digits) ∙ sym (decoded _) ∙ ap result_ok bad
     ]
