@@ -12,16 +12,16 @@ import sys
 import tempfile
 from pathlib import Path
 
-from harness.journal import FILES, Shell, numbered, set_record
+from harness.journal import FILES, FOLDER, Shell, numbered, set_record
+from harness.program import most_memory
 from harness.words import run_named
 
-# The folder whose files lie in memory, or the usual one.
-MEMORY = Path("/dev/shm")
-FOLDER = MEMORY if MEMORY.is_dir() else None
 # As many topics as a store may have, and how many messages a commit has.
 TOPICS, CHANGES = 65_536, 64
 # The bytes of the longest topic, and of the longest payload beside the length of no properties.
 LONGEST_TOPIC, LONGEST_PAYLOAD = 65_535, 262_143
+# How many messages of the longest payload 64 MB are, and how many bytes may be held to find them.
+LARGE, HELD = 256, 96 << 20
 # A page of the log, and what stands before the first: of a commit of one page each byte is changed.
 FRAME = 24 + 1024
 # A lock of all of a file for writing, which lasts until the file is closed.
@@ -136,11 +136,31 @@ def many():
     print(f"{TOPICS:,} topics with all properties: {often} pages by many commits, {once} by one")
 
 
-def refused(folder, text, before=()):
-    """An opening is refused for this reason, and leaves each file as it is."""
+def pieces():
+    """Messages of 64 MB are found with no second 64 MB, in the log and in the file of pages."""
+    with tempfile.TemporaryDirectory(dir=FOLDER) as folder:
+        with Shell(folder) as journal:
+            journal.do("open")
+            for number in range(LARGE):
+                journal.push(numbered(number, LONGEST_PAYLOAD, False))
+            journal.do("commit")
+        most = []
+        for _ in range(2):
+            with Shell(folder) as journal:
+                if int(journal.do("retain")) != LARGE:
+                    sys.exit(f"not all of {LARGE} messages of {LONGEST_PAYLOAD} bytes are found")
+                most.append(most_memory(journal.run.pid) * 1024)
+                journal.do("checkpoint")
+    if max(most) > HELD:
+        sys.exit(f"{most} bytes held to find {LARGE} messages of {LONGEST_PAYLOAD} bytes")
+    print(f"{LARGE} messages of {LONGEST_PAYLOAD} bytes: found with {max(most) >> 20} MB")
+
+
+def refused(folder, text, before=(), words=("open",)):
+    """An opening by this command is refused for this reason, and leaves each file as it is."""
     kept = bytes_in(folder)
     with Shell(folder, before) as journal:
-        is_done, reason = journal.ask("open")
+        is_done, reason = journal.ask(*words)
     if is_done or text not in reason:
         sys.exit(f"an opening is not refused for {text}: {reason[:80]}")
     # A file that is missing may be made, empty.
@@ -173,12 +193,13 @@ def pages_and_log(is_copied):
 
 
 def refused_with(pages, log, text):
-    """Files with these bytes are refused for this reason. Either may be missing."""
+    """Files with these bytes are refused for this reason, synced or not. Either may be missing."""
     with tempfile.TemporaryDirectory(dir=FOLDER) as folder:
         for name, data in zip(FILES, (pages, log)):
             if data is not None:
                 Path(folder, name).write_bytes(data)
         refused(folder, text)
+        refused(folder, text, words=("unsynced", 1, numbered(0, 100).hex()))
 
 
 def foreign():
@@ -231,7 +252,7 @@ def read_only():
 
 
 def main():
-    run_named((damage, many, foreign, held, read_only))
+    run_named((damage, many, pieces, foreign, held, read_only))
 
 
 if __name__ == "__main__":

@@ -13,12 +13,9 @@ from collections import Counter
 from pathlib import Path
 
 from harness.in_order import in_order
-from harness.journal import FILES, Ended, Shell, numbered
+from harness.journal import FILES, FOLDER, Ended, Shell, numbered
 from harness.program import preloaded
 
-# The folder whose files lie in memory, or the usual one.
-MEMORY = Path("/dev/shm")
-FOLDER = MEMORY if MEMORY.is_dir() else None
 # What is kept, one commit behind the other: whether the journal begins anew, and the numbers of the
 # messages that are pushed.
 BATCHES = (

@@ -5,12 +5,16 @@ import struct
 import subprocess
 import sys
 import threading
+from pathlib import Path
 
 from harness.patience import PATIENCE
 from harness.program import program
 
 # The names of the files.
 FILES = ("journal", "journal-wal")
+# The folder whose files lie in memory, or the usual one.
+MEMORY = Path("/dev/shm")
+FOLDER = MEMORY if MEMORY.is_dir() else None
 
 
 def counted(data):

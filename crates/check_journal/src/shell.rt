@@ -5,7 +5,8 @@ ghost use Rattle.std.specs.Prelude.{◌≡◌};
 use crate::fault::Fault;
 use bytes::Bytes;
 use rs_journal::{
-    Journal, NotOpened, OpenFiles, OperationSink, Retained, Switch, Switched, WriteFault,
+    Journal, JournalDisk, NotOpened, OpenFiles, OperationSink, Retained, Switch, Switched,
+    WriteFault,
 };
 use rs_journal_record::{RecordFault, put_record, read_record};
 use rs_message::Operation;
@@ -72,7 +73,7 @@ fn read_operations(alloc: Global, digits: &str) -> Result<Vec<Operation>, Fault>
 }
 
 /// An open journal over these files, whose operations the sink takes.
-fn opened<D: Disk + Drop, S: OperationSink>(
+fn opened<D: JournalDisk + Drop, S: OperationSink>(
     alloc: Global,
     files: Files<D>,
     sink: &mut S,

@@ -32,12 +32,12 @@ foreign_explained fault seen (inl h) = other_explained fault seen (inl h)
 foreign_explained fault seen (inr is) = subst (λ (f : OpenFault). Explains f seen) (sym is.0) is.1
 
 -- what holds of files that are spared, if it does of those that were looked at and are none
-pub spared_only : (is_mixing : Bool) (seen : Image) (P : Type 0) → ¬ IsLoneLog seen → ¬ HasOtherHead seen → (¬ IsUnmade seen → IsUnreadable 1024 seen → P) → (IsTrue is_mixing → ¬ IsForeignLog seen.log)
-    → AreSpared is_mixing seen → P
-spared_only is_mixing seen P lone head unreadable foreign (inl is) = absurd (lone is)
-spared_only is_mixing seen P lone head unreadable foreign (inr (inl is)) = absurd (head is)
-spared_only is_mixing seen P lone head unreadable foreign (inr (inr (inl is))) = unreadable is.0 is.1
-spared_only is_mixing seen P lone head unreadable foreign (inr (inr (inr is))) = absurd (foreign is.0 is.1)
+pub spared_only : (names_stay : Bool) (seen : Image) (P : Type 0) → ¬ IsLoneLog seen → ¬ HasOtherHead seen → (¬ IsUnmade seen → IsUnreadable 1024 seen → P) → (IsTrue names_stay → ¬ IsForeignLog seen.log)
+    → AreSpared names_stay seen → P
+spared_only names_stay seen P lone head unreadable foreign (inl is) = absurd (lone is)
+spared_only names_stay seen P lone head unreadable foreign (inr (inl is)) = absurd (head is)
+spared_only names_stay seen P lone head unreadable foreign (inr (inr (inl is))) = unreadable is.0 is.1
+spared_only names_stay seen P lone head unreadable foreign (inr (inr (inr is))) = absurd (foreign is.0 is.1)
 
 module _ {D : Type 0} {g : Ghosts D} where
   -- a pager over files that were read

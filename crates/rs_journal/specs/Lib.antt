@@ -10,3 +10,4 @@ pub mod Writing
 pub mod Retaining
 pub mod Restarting
 pub mod Law
+pub mod Switching

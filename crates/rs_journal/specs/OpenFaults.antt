@@ -90,8 +90,8 @@ pub record HasOtherHead (image : Image) : Type 0 where
 
 -- Files that an opening leaves as they are. The last kind is one only where a crash leaves each byte of a torn write old or new.
 abbrev pub AreSpared : Bool → Image → Type 0
-AreSpared is_mixing image =
-    IsLoneLog image ⊎ (HasOtherHead image ⊎ ((¬ IsUnmade image × IsUnreadable page_size image) ⊎ (IsTrue is_mixing × IsForeignLog image.log)))
+AreSpared names_stay image =
+    IsLoneLog image ⊎ (HasOtherHead image ⊎ ((¬ IsUnmade image × IsUnreadable page_size image) ⊎ (IsTrue names_stay × IsForeignLog image.log)))
 
 -- they recover to no whole pages, or to such that are wrong in this way
 abbrev pub IsOtherFile : OpenFault → Image → Type 0

@@ -23,7 +23,7 @@ pub enum ReadFault {
     #[error("memory ran out while the journal was read; try again later")]
     NoMemory,
     /// A call of the files failed.
-    #[error("the journal cannot be read: {0}")]
+    #[error("the journal cannot be read: {0}; start again, and look at its disk if that does not help")]
     Disk(Error),
 }
 

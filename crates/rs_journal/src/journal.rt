@@ -13,6 +13,7 @@ ghost use Rattle.rs_journal.specs.Pages.{page_size};
 ghost use Rattle.rs_journal.specs.Retaining.{Retains, sets_of};
 ghost use Rattle.rs_journal.specs.Writing.{IsRefused};
 
+use crate::disk::JournalDisk;
 use crate::fault::{ReadFault, WriteFault};
 use crate::pages::{NotOpened, PageStream};
 use crate::reading::{drop_front, read_frames};
@@ -33,10 +34,8 @@ pub struct Journal<D: Disk> {
     pub(crate) alloc: Global,
 }
 
-impl<D: Disk> Journal<D> {
-    ghost use Rattle.rs_journal.specs.Journals.{may_leave, page_count, log_len, HasSpilled, IsClean, IsOpen, IsUnmade, files_of, HasFailed, Keeps, StandsFor, EachStandsForOne, AddsNoOutcome, Holds, Rests, StaysClosed};
-    ghost use Rattle.rs_journal.specs.Streams.{Rests as RestsStream, Stands as StandsStream};
-    ghost use Rattle.rs_journal.specs.Frames.{frames};
+impl<D: JournalDisk> Journal<D> {
+    ghost use Rattle.rs_journal.specs.Journals.{may_leave, IsClean, IsOpen, IsUnmade, StandsFor, EachStandsForOne, Rests};
 
     /// Opens the journal of these files and hands on the operations that they stand for, a page's worth at a time. The seed is any number
     /// that no earlier opening of these files had.
@@ -44,8 +43,7 @@ impl<D: Disk> Journal<D> {
     /// A crash on the way leaves what they stood for. Files in which anything was made stand for it still, whatever comes of this. If it
     /// fails, the files come back, and the sink may have some of the operations. Files of another program or another version, and a log
     /// whose file of pages is empty, are as they were then, byte for byte. So is what stands in the place of a log and is none, over a disk
-    /// on which a crash leaves each byte of a torn write old or new, as on real files; over another it is taken for a log that a crash has
-    /// torn.
+    /// on which its name would stay, as over real files, synced or not; over another it is taken for a log that a crash has torn.
     pub fn open<S: OperationSink>(
         alloc: Global,
         files: Files<D>,
@@ -60,8 +58,8 @@ impl<D: Disk> Journal<D> {
         ensures refused { IfErr result (λ e. IsRefusal e.fault → AreClean D.Disk e.files.log e.files.db
             → (operations : List Kept) → All IsOperation operations → ¬ StandsFor (seen_image D.Disk files.log files.db) operations) }
         ensures named { IfErr result (λ e. AreClean D.Disk e.files.log e.files.db → Explains e.fault (seen_image D.Disk files.log files.db)) }
-        ensures opens_none { IfOk result (λ it. IsClean it → ¬ AreSpared (D.Disk.is_mixing files.log) (seen_image D.Disk files.log files.db)) }
-        ensures spares { IfErr result (λ e. AreClean D.Disk e.files.log e.files.db → AreSpared (D.Disk.is_mixing files.log) (seen_image D.Disk files.log files.db)
+        ensures opens_none { IfOk result (λ it. IsClean it → ¬ AreSpared (D.JournalDisk.names_stay files.log) (seen_image D.Disk files.log files.db)) }
+        ensures spares { IfErr result (λ e. AreClean D.Disk e.files.log e.files.db → AreSpared (D.JournalDisk.names_stay files.log) (seen_image D.Disk files.log files.db)
             → AreKept (seen_image D.Disk files.log files.db) (outcomes_of D.Disk files.log files.db) (seen_image D.Disk e.files.log e.files.db) (outcomes_of D.Disk e.files.log e.files.db)) }
         ensures untouched { IfOk result (λ it. ¬ IsUnmade (seen_image D.Disk files.log files.db) → AddsNothing page_size (outcomes_of D.Disk files.log files.db) (may_leave it)) }
         ensures left_alone { IfErr result (λ e. ¬ IsUnmade (seen_image D.Disk files.log files.db) → AddsNothing page_size (outcomes_of D.Disk files.log files.db) (outcomes_of D.Disk e.files.log e.files.db)) }
@@ -90,6 +88,12 @@ impl<D: Disk> Journal<D> {
             }),
         }
     }
+}
+
+impl<D: Disk> Journal<D> {
+    ghost use Rattle.rs_journal.specs.Journals.{may_leave, page_count, log_len, HasSpilled, IsClean, IsOpen, files_of, HasFailed, Keeps, AddsNoOutcome, Holds, Rests, StaysClosed};
+    ghost use Rattle.rs_journal.specs.Streams.{Rests as RestsStream, Stands as StandsStream};
+    ghost use Rattle.rs_journal.specs.Frames.{frames};
 
     /// Whether nothing has failed since its opening that asks for a new one.
     pub fn is_open(&self) -> bool

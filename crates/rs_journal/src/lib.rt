@@ -6,6 +6,7 @@
 //! then, or only for what needs it. There the clauses tell what a kill of the process leaves, and no more.
 #![tactic(auto)]
 
+mod disk;
 mod fault;
 mod files;
 mod journal;
@@ -16,6 +17,7 @@ mod retained;
 mod sink;
 mod switched;
 
+pub use disk::JournalDisk;
 pub use fault::{ReadFault, WriteFault};
 pub use files::OpenFiles;
 pub use journal::Journal;

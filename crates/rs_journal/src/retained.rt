@@ -1,13 +1,13 @@
 //! What is retained after operations.
 
-ghost use Rattle.std.specs.Prelude.{◌≡◌, [], OnOk, OnErr};
+ghost use Rattle.std.specs.Prelude.{◌≡◌, [], IfOk, OnOk, OnErr};
 ghost use Rattle.std.specs.BTreeMap.{insert_entry};
 ghost use Rattle.std.specs.List.{filter};
 ghost use Rattle.rs_topic.specs.Order.{topic_cmp};
 ghost use Rattle.rs_store.specs.Contents.{after, stays};
 
 use crate::sink::OperationSink;
-use rs_message::{Message, Operation};
+use rs_message::{Found, Message, Operation};
 use rs_store::is_expired;
 use rs_topic::TopicName;
 use std::alloc::{AllocError, Global};
@@ -64,7 +64,7 @@ fn change(
 }
 
 impl Retained {
-    ghost use Rattle.rs_journal.specs.Retaining.{Retains, topic_count};
+    ghost use Rattle.rs_journal.specs.Retaining.{Retains, founds_of, sets_of, topic_count};
 
     /// What is retained after no operation.
     pub fn new(alloc: Global) -> Retained
@@ -73,6 +73,22 @@ impl Retained {
         Retained {
             messages: BTreeMap::new(alloc),
         }
+    }
+
+    /// Its messages with their topics, in the order of replay: as a list with which a store is opened.
+    pub fn list(&self, alloc: Global) -> Result<Vec<Found>, AllocError>
+        ensures list { IfOk result (λ list. list.items ≡ founds_of self.now) }
+        ensures leave { OnOk result (Retains self.now (sets_of self.now)) }
+    {
+        let mut list = Vec::new(alloc);
+        for (topic, message) in &self.messages {
+            let found = Found::new(alloc, topic.copy()?, message.copy()?)?;
+            match list.push(found) {
+                Ok(()) => {}
+                Err(_) => return Err(AllocError),
+            }
+        }
+        Ok(list)
     }
 
     /// How many topics hold a message.

@@ -2,6 +2,7 @@
 
 ghost use Rattle.std.specs.Prelude.{◌≡◌, refl};
 
+use crate::disk::JournalDisk;
 use sqlite_disk::{Disk, Tally};
 use std::alloc::{AllocError, Global};
 use std::io;
@@ -54,8 +55,12 @@ pub struct Switched<D: Disk> {
 }
 
 impl<D: Disk> Switched<D> {
+    ghost use Rattle.rs_journal.specs.Switching.{inner_of};
+
     /// This disk, whose syncs are made while the switch is on.
-    pub fn new(inner: D, switch: Switch) -> Switched<D> {
+    pub fn new(inner: D, switch: Switch) -> Switched<D>
+        ensures { inner_of result ≡ inner }
+    {
         Switched { inner, switch }
     }
 }
@@ -124,5 +129,14 @@ impl<D: Disk> Disk for Switched<D> {
         } else {
             Ok(())
         }
+    }
+}
+
+/// A write that was not synced is torn as any other, and an opening syncs the name of a log.
+impl<D: JournalDisk> JournalDisk for Switched<D> {
+    ghost names_stay = { λ d. D.JournalDisk.names_stay d.inner };
+
+    fn keeps_names(&self) -> bool {
+        self.inner.keeps_names()
     }
 }

@@ -4,6 +4,7 @@ ghost use Rattle.std.specs.Prelude.{◌≡◌, ◌+◌, ◌&&◌, not, false, le
 ghost use Rattle.sqlite_disk.specs.Disk.{CountsFault};
 ghost use Rattle.sqlite_disk.specs.Refusal.{finds_no_room};
 
+use rs_journal::JournalDisk;
 use sqlite_disk::{Crash, Disk, Tally};
 use std::alloc::{AllocError, Global};
 use std::io;
@@ -162,5 +163,14 @@ impl<D: Disk> Disk for Faulty<D> {
             return Err(error);
         }
         self.inner.sync()
+    }
+}
+
+/// A write may be torn to any bytes.
+impl<D: Disk> JournalDisk for Faulty<D> {
+    ghost names_stay = { λ _. false };
+
+    fn keeps_names(&self) -> bool {
+        false
     }
 }

@@ -4,7 +4,9 @@ ghost use Rattle.std.specs.Prelude.{◌≡◌};
 
 use crate::faulty::{Failing, Faulty};
 use bytes::Bytes;
-use rs_journal::{Error, Journal, NotOpened, OperationSink, ReadFault, Retained, WriteFault};
+use rs_journal::{
+    Error, Journal, JournalDisk, NotOpened, OperationSink, ReadFault, Retained, WriteFault,
+};
 use rs_journal_record::{put_record, read_record};
 use rs_message::Operation;
 use sqlite_disk::{Disk, Files, Memory};
@@ -252,7 +254,7 @@ impl Expected {
 }
 
 /// A journal over these files, whose operations the sink has taken. If it does not open, the files, and why.
-pub fn opened<D: Disk, S: OperationSink>(
+pub fn opened<D: JournalDisk, S: OperationSink>(
     alloc: Global,
     files: Files<D>,
     sink: &mut S,
@@ -270,7 +272,7 @@ pub fn opened<D: Disk, S: OperationSink>(
 }
 
 /// What files stand for, as records, or the fault that their opening has.
-pub fn found_in<D: Disk + Drop>(
+pub fn found_in<D: JournalDisk + Drop>(
     alloc: Global,
     files: Files<D>,
 ) -> Result<Result<Vec<u8>, ReadFault>, Fail> {
@@ -310,7 +312,7 @@ fn done<D: Disk>(alloc: Global, journal: &mut Journal<D>, step: Step) -> Result<
 }
 
 /// Does these steps from an opening on, as far as the journal stays open. An opening that finds something else is a failure.
-pub fn run<D: Disk + Drop>(
+pub fn run<D: JournalDisk + Drop>(
     alloc: Global,
     files: Files<D>,
     steps: &[Step],
@@ -345,7 +347,7 @@ pub fn run<D: Disk + Drop>(
 }
 
 /// The same over files of which no call fails: a step that is not done is a failure.
-pub fn run_all<D: Disk + Drop>(
+pub fn run_all<D: JournalDisk + Drop>(
     alloc: Global,
     files: Files<D>,
     steps: &[Step],

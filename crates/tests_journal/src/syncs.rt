@@ -2,8 +2,8 @@
 
 use crate::faulty::{Failing, Faulty};
 use crate::script::{Image, Taken, opened, operation, refuses};
-use rs_journal::{Journal, Switch, Switched, WriteFault};
-use sqlite_disk::{Disk, Files, Memory};
+use rs_journal::{Journal, JournalDisk, Switch, Switched, WriteFault};
+use sqlite_disk::{Files, Memory};
 use std::alloc::Global;
 use std::test::Fail;
 
@@ -14,7 +14,7 @@ fn disk(alloc: Global, switch: &Switch) -> Result<Switched<Faulty<Memory>>, Fail
 }
 
 /// An open journal over these files.
-fn journal_of<D: Disk + Drop>(alloc: Global, files: Files<D>) -> Result<Journal<D>, Fail> {
+fn journal_of<D: JournalDisk + Drop>(alloc: Global, files: Files<D>) -> Result<Journal<D>, Fail> {
     match opened(alloc, files, &mut Taken::new(alloc)) {
         Ok(journal) => Ok(journal),
         Err(_) => Err("a journal that opens".into()),

@@ -30,7 +30,7 @@ const OPEN_FAULTS: [(OpenFault, &str); 7] = [
     ),
     (
         OpenFault::Disk(Error::Full),
-        "the files cannot be read or written: the database or its log is full",
+        "the files cannot be read or written: the database or its log is full; look at their disk and permissions, and start again",
     ),
 ];
 
@@ -45,7 +45,7 @@ const READ_FAULTS: [(ReadFault, &str); 3] = [
     ),
     (
         ReadFault::Disk(Error::Closed),
-        "the journal cannot be read: the database is closed: open it again",
+        "the journal cannot be read: the database is closed: open it again; start again, and look at its disk if that does not help",
     ),
 ];
 

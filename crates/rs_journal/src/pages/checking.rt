@@ -11,6 +11,7 @@ ghost use Rattle.rs_journal.specs.Images.{IsUnmade, StandsFor};
 ghost use Rattle.rs_journal.specs.OpenFaults.{Explains, IsRefusal, IsHindrance, IsLoneLog, IsForeignLog, HasOtherHead, IsOtherFile, log_name};
 ghost use Rattle.rs_journal.specs.declared.pages.fault.OpenFault.TheVariants.{Foreign, ForeignLog};
 
+use crate::disk::JournalDisk;
 use crate::pages::fault::{OpenFault, fault_from};
 use crate::pages::form::{PAGE_SIZE, read_head};
 use sqlite_disk::{Disk, Files};
@@ -340,10 +341,10 @@ fn is_lone(log_len: usize, db_len: usize) -> bool
 }
 
 /// Whether a log's name is looked for in a file of this length. A crash may leave another one if it may leave any bytes of a torn write.
-fn has_name(log_len: usize, is_mixing: bool) -> bool
-    ensures { IsTrue result ↔ IsTrue is_mixing × (41 < log_len) }
+fn has_name(log_len: usize, names_stay: bool) -> bool
+    ensures { IsTrue result ↔ IsTrue names_stay × (41 < log_len) }
 {
-    is_mixing && log_len > BARE_LOG
+    names_stay && log_len > BARE_LOG
 }
 
 /// Refuses files of these lengths that are none of a journal, or of another version.
@@ -351,7 +352,7 @@ fn check_long<D: Disk>(
     alloc: Global,
     files: &mut Files<D>,
     first: &[u8],
-    is_mixing: bool,
+    names_stay: bool,
     log_len: usize,
     db_len: usize,
 ) -> Result<(), OpenFault>
@@ -362,7 +363,7 @@ fn check_long<D: Disk>(
     requires of_db { IsClean D.Disk files.old.db → db_len ≡ length (D.Disk.seen files.old.db) }
     ensures lone { OnOk result (AreClean D.Disk files.new.log files.new.db → ¬ IsLoneLog (seen_image D.Disk files.old.log files.old.db)) }
     ensures head { OnOk result (AreClean D.Disk files.new.log files.new.db → ¬ HasOtherHead (seen_image D.Disk files.old.log files.old.db)) }
-    ensures named_log { OnOk result (IsTrue is_mixing → AreClean D.Disk files.new.log files.new.db → ¬ IsForeignLog (D.Disk.seen files.old.log)) }
+    ensures named_log { OnOk result (IsTrue names_stay → AreClean D.Disk files.new.log files.new.db → ¬ IsForeignLog (D.Disk.seen files.old.log)) }
     ensures refused { IfErr result (λ e. IsRefusal e → AreClean D.Disk files.new.log files.new.db → (stream : List ℕ) → ¬ StandsFor (seen_image D.Disk files.old.log files.old.db) stream) }
     ensures named { IfErr result (λ e. AreClean D.Disk files.new.log files.new.db → Explains e (seen_image D.Disk files.old.log files.old.db)) }
     ensures log { OnlyReads D.Disk files.old.log files.new.log }
@@ -371,7 +372,7 @@ fn check_long<D: Disk>(
     if is_lone(log_len, db_len) {
         return Err(OpenFault::LoneLog);
     }
-    match check_some(alloc, files, first, has_name(log_len, is_mixing)) {
+    match check_some(alloc, files, first, has_name(log_len, names_stay)) {
         Ok(()) => Ok(()),
         Err(fault) => Err(fault),
     }
@@ -379,7 +380,7 @@ fn check_long<D: Disk>(
 
 /// Refuses files that are none of a journal, or of another version, and a log whose file of pages is empty. In a long log it looks for a
 /// log's name only where a crash leaves each byte of a torn write old or new: elsewhere it may leave other bytes there.
-pub(crate) fn check_files<D: Disk>(
+pub(crate) fn check_files<D: JournalDisk>(
     alloc: Global,
     files: &mut Files<D>,
     first: &[u8],
@@ -389,18 +390,18 @@ pub(crate) fn check_files<D: Disk>(
     requires head { first.now ≡ head_form 1 }
     ensures lone { OnOk result (AreClean D.Disk files.new.log files.new.db → ¬ IsLoneLog (seen_image D.Disk files.old.log files.old.db)) }
     ensures head { OnOk result (AreClean D.Disk files.new.log files.new.db → ¬ HasOtherHead (seen_image D.Disk files.old.log files.old.db)) }
-    ensures named_log { OnOk result (AreClean D.Disk files.new.log files.new.db → IsTrue (D.Disk.is_mixing files.old.log) → ¬ IsForeignLog (D.Disk.seen files.old.log)) }
+    ensures named_log { OnOk result (AreClean D.Disk files.new.log files.new.db → IsTrue (D.JournalDisk.names_stay files.old.log) → ¬ IsForeignLog (D.Disk.seen files.old.log)) }
     ensures refused { IfErr result (λ e. IsRefusal e → AreClean D.Disk files.new.log files.new.db → (stream : List ℕ) → ¬ StandsFor (seen_image D.Disk files.old.log files.old.db) stream) }
     ensures named { IfErr result (λ e. AreClean D.Disk files.new.log files.new.db → Explains e (seen_image D.Disk files.old.log files.old.db)) }
     ensures log { OnlyReads D.Disk files.old.log files.new.log }
     ensures db { OnlyReads D.Disk files.old.db files.new.db }
 {
-    let is_mixing = files.log.mixes();
+    let names_stay = files.log.keeps_names();
     let lens = match lengths(files) {
         Ok(lens) => lens,
         Err(fault) => return Err(fault),
     };
-    match check_long(alloc, files, first, is_mixing, lens.0, lens.1) {
+    match check_long(alloc, files, first, names_stay, lens.0, lens.1) {
         Ok(()) => Ok(()),
         Err(fault) => Err(fault),
     }

@@ -11,8 +11,8 @@ use std::alloc::AllocError;
 use std::io;
 use thiserror::Error as ErrorMessage;
 
-/// Why the stream of two files cannot be opened. Only after `Damaged`, `NoMemory` and `Disk` may a log be others than it was: a part of it
-/// that no commit ends may be overwritten.
+/// Why the stream of two files cannot be opened. Only after `Damaged`, `NoMemory` and `Disk` may they have changed: what no commit of the
+/// log ends may be overwritten, and files of which nothing was made may be made in part.
 #[derive(Clone, Copy, Debug, ErrorMessage)]
 pub enum OpenFault {
     /// The files are of another program, or damaged in their heads.
@@ -34,7 +34,7 @@ pub enum OpenFault {
     #[error("memory ran out while the files were read; try again later")]
     NoMemory,
     /// A call of the files failed, or they are larger than they can be.
-    #[error("the files cannot be read or written: {0}")]
+    #[error("the files cannot be read or written: {0}; look at their disk and permissions, and start again")]
     Disk(Error),
 }
 

@@ -12,6 +12,7 @@ ghost use Rattle.rs_journal.specs.Images.{AreKept, EachStandsForOne, IsUnmade, S
 ghost use Rattle.rs_journal.specs.OpenFaults.{AreSpared, AreWrong, Explains, IsHindrance, IsRefusal};
 ghost use Rattle.rs_journal.specs.declared.pages.fault.OpenFault.TheVariants.{NoMemory};
 
+use crate::disk::JournalDisk;
 use crate::pages::checking::check_files;
 use crate::pages::extent::Extent;
 use crate::pages::fault::{NotOpened, OpenFault, fault_from};
@@ -189,7 +190,7 @@ fn new_pager<D: Disk>(
 }
 
 /// Makes the pages in these files, or finds them, and which of them have the stream.
-fn open_pages<D: Disk>(
+fn open_pages<D: JournalDisk>(
     alloc: Global,
     mut files: Files<D>,
     seed: u64,
@@ -204,8 +205,8 @@ fn open_pages<D: Disk>(
     ensures found { IfOk result (λ it. IsTrue (state it.0).is_clean → StandsFor (seen_image D.Disk files.log files.db) (joined (visible it.0) it.1.count) × HasStream (visible it.0) it.1.first it.1.count (joined (visible it.0) it.1.count)) }
     ensures refused { IfErr result (λ e. IsRefusal e.fault → AreClean D.Disk e.files.log e.files.db → (stream : List ℕ) → ¬ StandsFor (seen_image D.Disk files.log files.db) stream) }
     ensures named { IfErr result (λ e. AreClean D.Disk e.files.log e.files.db → Explains e.fault (seen_image D.Disk files.log files.db)) }
-    ensures opens_none { IfOk result (λ it. IsTrue (state it.0).is_clean → ¬ AreSpared (D.Disk.is_mixing files.log) (seen_image D.Disk files.log files.db)) }
-    ensures spares { IfErr result (λ e. AreClean D.Disk e.files.log e.files.db → AreSpared (D.Disk.is_mixing files.log) (seen_image D.Disk files.log files.db)
+    ensures opens_none { IfOk result (λ it. IsTrue (state it.0).is_clean → ¬ AreSpared (D.JournalDisk.names_stay files.log) (seen_image D.Disk files.log files.db)) }
+    ensures spares { IfErr result (λ e. AreClean D.Disk e.files.log e.files.db → AreSpared (D.JournalDisk.names_stay files.log) (seen_image D.Disk files.log files.db)
         → AreKept (seen_image D.Disk files.log files.db) (outcomes_of D.Disk files.log files.db) (seen_image D.Disk e.files.log e.files.db) (outcomes_of D.Disk e.files.log e.files.db)) }
     ensures untouched { IfOk result (λ it. ¬ IsUnmade (seen_image D.Disk files.log files.db) → AddsNothing page_size (outcomes_of D.Disk files.log files.db) (state it.0).may_leave) }
     ensures left_alone { IfErr result (λ e. ¬ IsUnmade (seen_image D.Disk files.log files.db) → AddsNothing page_size (outcomes_of D.Disk files.log files.db) (outcomes_of D.Disk e.files.log e.files.db)) }
@@ -228,7 +229,7 @@ fn open_pages<D: Disk>(
     }
 }
 
-impl<D: Disk> PageStream<D> {
+impl<D: JournalDisk> PageStream<D> {
     ghost use Rattle.rs_journal.specs.Streams.{may_leave, IsClean, IsOpen, Rests};
 
     /// Opens the stream of these files. A crash on the way leaves what they stood for. Files in which anything was made stand for it still,
@@ -244,8 +245,8 @@ impl<D: Disk> PageStream<D> {
         ensures open { IfOk result IsOpen }
         ensures refused { IfErr result (λ e. IsRefusal e.fault → AreClean D.Disk e.files.log e.files.db → (stream : List ℕ) → ¬ StandsFor (seen_image D.Disk files.log files.db) stream) }
         ensures named { IfErr result (λ e. AreClean D.Disk e.files.log e.files.db → Explains e.fault (seen_image D.Disk files.log files.db)) }
-        ensures opens_none { IfOk result (λ it. IsClean it → ¬ AreSpared (D.Disk.is_mixing files.log) (seen_image D.Disk files.log files.db)) }
-        ensures spares { IfErr result (λ e. AreClean D.Disk e.files.log e.files.db → AreSpared (D.Disk.is_mixing files.log) (seen_image D.Disk files.log files.db)
+        ensures opens_none { IfOk result (λ it. IsClean it → ¬ AreSpared (D.JournalDisk.names_stay files.log) (seen_image D.Disk files.log files.db)) }
+        ensures spares { IfErr result (λ e. AreClean D.Disk e.files.log e.files.db → AreSpared (D.JournalDisk.names_stay files.log) (seen_image D.Disk files.log files.db)
             → AreKept (seen_image D.Disk files.log files.db) (outcomes_of D.Disk files.log files.db) (seen_image D.Disk e.files.log e.files.db) (outcomes_of D.Disk e.files.log e.files.db)) }
         ensures untouched { IfOk result (λ it. ¬ IsUnmade (seen_image D.Disk files.log files.db) → AddsNothing page_size (outcomes_of D.Disk files.log files.db) (may_leave it)) }
         ensures left_alone { IfErr result (λ e. ¬ IsUnmade (seen_image D.Disk files.log files.db) → AddsNothing page_size (outcomes_of D.Disk files.log files.db) (outcomes_of D.Disk e.files.log e.files.db)) }

@@ -35,7 +35,7 @@ returns-in-Ok-check_long-clause-head g c = λ clean.
 
 pub returns-in-Ok-check_long-clause-named_log : goal.returns-in-Ok-check_long-clause-named_log
 returns-in-Ok-check_long-clause-named_log g c = λ clean mixing.
-    subst (λ (l : List ℕ). ¬ IsForeignLog l) c.lengths.ensures.log.seen (c.in-Ok-check_long.ensures.named_log (c.mixes-is_mixing.ensures ∙ mixing) clean)
+    subst (λ (l : List ℕ). ¬ IsForeignLog l) c.lengths.ensures.log.seen (c.in-Ok-check_long.ensures.named_log (c.keeps_names-names_stay.ensures ∙ mixing) clean)
 
 pub returns-in-Err-check_long-clause-refused : goal.returns-in-Err-check_long-clause-refused
 returns-in-Err-check_long-clause-refused g c = λ refusal clean stream.

@@ -84,7 +84,7 @@ returns-in-Ok-open_extent-clause-opens_none g c = λ clean spared.
     let found = c.in-Ok-open_extent.ensures.found clean in
     let stream = joined (visible c.open_extent.new.pager) c.in-Ok-open_extent.extent.count in
     let stands = subst (λ (i : Image). StandsFor i stream) before.same found.0 in
-    spared_only (g.D.Disk.is_mixing old.log) seen ⊥ (c.in_default.ensures.lone looked) (c.in_default.ensures.head looked) (λ made unreadable. not_unreadable seen stream made unreadable stands) (c.in_default.ensures.named_log looked) spared
+    spared_only (g.D.JournalDisk.names_stay old.log) seen ⊥ (c.in_default.ensures.lone looked) (c.in_default.ensures.head looked) (λ made unreadable. not_unreadable seen stream made unreadable stands) (c.in_default.ensures.named_log looked) spared
 
 pub returns-in-Ok-open_extent-clause-untouched : goal.returns-in-Ok-open_extent-clause-untouched
 returns-in-Ok-open_extent-clause-untouched g c = λ made.
@@ -131,7 +131,7 @@ returns-in-Err-open_extent-clause-spares g c = λ clean spared.
     let before = kept_before old.log old.db mid.log mid.db start c.check_files.ensures.log c.check_files.ensures.db c.in-Ok.ensures.over in
     let clean_last = clean_out last back.log back.db (sym c.close.ensures) clean in
     let looked = clean_over start mid.log mid.db c.in-Ok.ensures.over (c.open_extent.ensures.honest clean_last) in
-    spared_only (g.D.Disk.is_mixing old.log) seen (AreKept seen (outcomes_of g.D.Disk old.log old.db) (seen_image g.D.Disk back.log back.db) (outcomes_of g.D.Disk back.log back.db))
+    spared_only (g.D.JournalDisk.names_stay old.log) seen (AreKept seen (outcomes_of g.D.Disk old.log old.db) (seen_image g.D.Disk back.log back.db) (outcomes_of g.D.Disk back.log back.db))
     (c.in_default.ensures.lone looked) (c.in_default.ensures.head looked)
     (λ made unreadable.
     kept_behind old.log old.db start last back.log back.db before
