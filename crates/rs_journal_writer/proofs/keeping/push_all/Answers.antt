@@ -1,0 +1,23 @@
+use Rattle.std.proofs.Common.{List, ◌<◌, ◌≤◌, ◌++◌, ap, arith, length, subst, take}
+use Rattle.std.proofs.lemmas.List.{take_all}
+use Rattle.rs_message.specs.declared.entry.Entry.{Entry}
+use Rattle.rs_message.specs.declared.entry.Operation.{Operation}
+use Rattle.rs_journal.specs.Journals.{Holds}
+use Rattle.rs_journal.specs.Restarting.{operations_of}
+use Rattle.rs_journal_writer.proofs.Storing.{pushed_more}
+use Rattle.rs_journal_writer.proofs.keeping.push_all.Goals as goal
+
+pub loop-index-preserved : goal.loop-index-preserved
+loop-index-preserved g c = λ standing seen holds.
+    let entries = c.args.entries.now.items in
+    let i = c.loop-index.index in
+    let there : i < length entries = omega arith in
+    subst (λ (l : List Operation). Holds c.push.new.self standing l) (pushed_more seen entries i c.in-Some.entry.now there c.in-Some.ensures.lookup)
+    (c.in-Ok.ensures.pushed standing (seen ++ operations_of (take i entries)) (c.loop-index.invariant standing seen holds))
+
+pub returns-clause-pushed : goal.returns-clause-pushed
+returns-clause-pushed g c = λ standing seen holds.
+    let entries = c.args.entries.now.items in
+    let all : length entries ≤ c.loop-index.index = omega arith in
+    subst (λ (l : List Entry). Holds c.loop-index.journal standing (seen ++ operations_of l)) (take_all c.loop-index.index entries all)
+    (c.loop-index.invariant standing seen holds)
