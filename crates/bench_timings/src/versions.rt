@@ -7,7 +7,7 @@ use kit_test::{Change, Failure, Keeper, Naming, check, operation};
 use rs_message::{Found, MAX_PLACES, Operation, PlaceCount};
 use rs_store::TopicLimit;
 use rs_topic::TopicFilter;
-use rs_version::{Blank, Seat, StoreName, VersionWriter};
+use rs_version::{Blank, OpenFault, Seat, StoreName, VersionWriter};
 use std::alloc::Global;
 use std::marker::Brand;
 use std::rt::Clock;
@@ -272,7 +272,22 @@ fn timed_open<H: Clock + Wait, N: StoreName>(
     Ok(nanos(took))
 }
 
-/// Opens a store of one place that begins with a message of each topic that it may hold.
+/// A store does not open if these are messages of more topics than it may hold.
+fn refused_open<H: Wait, N: StoreName>(
+    rt: &H,
+    blank: Blank,
+    given: Vec<Found>,
+) -> Result<(), Failure>
+    requires { (blank.history ≡ N.history) × (blank.limit ≡ N.limit) }
+{
+    match blank.open_with::<N, &H>(rt, given) {
+        Err(OpenFault::TooManyTopics) => Ok(()),
+        Err(OpenFault::NoMemory) => Err(Failure::NoMemory),
+        Ok(_) => Err(Failure::Wrong),
+    }
+}
+
+/// Opens a store of one place that begins with a message of each topic that it may hold. With one more it does not open.
 pub fn opening<H: Clock + Wait>(
     rt: &H,
     alloc: Global,
@@ -282,5 +297,7 @@ pub fn opening<H: Clock + Wait>(
     let given = messages(alloc, limit.get())?;
     let blank = Blank::new(alloc, limit, places)?;
     let took = timed_open::<H, Brand>(rt, blank, given)?;
+    let many = messages(alloc, limit.get().saturating_add(1))?;
+    refused_open::<H, Brand>(rt, Blank::new(alloc, limit, places)?, many)?;
     Ok(vec![in alloc; took]?)
 }

@@ -1,24 +1,25 @@
 -- What was done with the entries that the writer took, one after the other.
 use Rattle.std.proofs.Common.{⊎_elim, drop, take, ◌≡◌, ℕ, zero, suc, ◌+◌, Bool, true, false, cond, All, ◌<◌, ◌≤◌, ◌||◌, List, [], ◌∷◌, ◌++◌, length, map, inl, inr, refl, sym, ap, subst, ◌∙◌, append_assoc, length-append, Ok, Err, OnOk, IfOk, IfErr, arith}
 use Rattle.std.specs.List.{AllByRecursion, filter}
+use Rattle.std.proofs.lemmas.Bool.{or_left, or_right}
 use Rattle.std.proofs.lemmas.List.{append-nil}
 use Rattle.std.proofs.lemmas.List.Elements.{filter-append}
 use Rattle.rs_message.specs.Messages.{is_sweep}
 use Rattle.rs_message.specs.declared.entry.Entry.{Entry}
 use Rattle.rs_store.specs.Adding.{Adds}
 use Rattle.rs_store.specs.History.{SerialsRise, cleaned, extended}
+use Rattle.rs_store.proofs.Entries.{all_append}
 use Rattle.rs_version.specs.First.{AreOwn}
-use Rattle.rs_version.specs.Writer.{IsNextOf, IsReadyFor, PassesOver, RefusesOf, Written, kept_of, shows}
-use Rattle.rs_version.specs.declared.fault.PutFault.{PutFault}
+use Rattle.rs_version.specs.Writer.{IsNextOf, IsReadyFor, RefusesOf, Written, kept_of, shows}
 use Rattle.rs_version.specs.declared.fault.PutFault.TheVariants.{Full, Held, NoMemory, Stale}
 use Rattle.rs_intake_queue.specs.Changes.{AreOf, AreOfOneJob, ArePlain, place_of_all}
-use Rattle.rs_intake_line.specs.Done.{Outcome, AreOutcomes, AreDone, AreRefusedBehind, AreReplied, IsBehindHeld, IsOutcome, IsDone, IsPassedOver, IsPut, ReplyValue, has_held, is_held, is_refused, not_refused, refused_reply, refused_in, replies_to}
+use Rattle.rs_intake_line.specs.Done.{Outcome, AreOutcomes, AreDone, AreRefusedBehind, AreReplied, IsBehindHeld, IsOutcome, IsDone, IsPut, ReplyValue, has_held, is_held, is_refused, not_refused, refused_reply, refused_in, replies_to}
 use Rattle.rs_intake_queue.specs.Parts.{IsPart}
 use Rattle.rs_intake_line.specs.Sending.{AreToPut, ArePut}
 use Rattle.rs_intake_line.specs.Sweeps.{AreForEntries, IsKeptFrom, IsSweptAtMost, without_sweeps}
-use Rattle.rs_intake_queue.proofs.Parts.{all_append, part_front, part_rises}
+use Rattle.rs_intake_queue.proofs.Parts.{part_front, part_rises}
 use Rattle.rs_intake.proofs.First.{kept_from_first, own_plain, own_sweeps}
-use Rattle.rs_intake.proofs.Sweeps.{entry_rises, adds_kept, held_kept, no_memory_kept, all_rise, kept_from_entry, kept_from_refused, passed_kept, released_kept, sweeps_entry, sweeps_refused, without_cleaned, without_more}
+use Rattle.rs_intake.proofs.Sweeps.{entry_rises, adds_kept, held_kept, no_memory_kept, all_rise, kept_from_entry, kept_from_refused, released_kept, sweeps_entry, sweeps_refused, without_cleaned, without_more}
 
 -- ---- a put
 
@@ -45,24 +46,6 @@ pub put_is : (limit : ℕ) (w w' : Written) (e : Entry) (outcome : Outcome) → 
     → IfOk outcome (λ r. r.number ≡ length w'.published) → IfOk outcome (λ r. r.told ≡ w'.published) → IfErr outcome (λ f. RefusesOf limit w e f w') → IsPut limit w e outcome w'
 put_is limit w w' e (Ok r) adds entry number told refuses = (adds, (entry, number, told))
 put_is limit w w' e (Err f) adds entry number told refuses = refuses
-
--- the outcome of an entry that is not put says what was done
-pub passed_done : (limit : ℕ) (w w' : Written) (e : Entry) (f : PutFault) → PassesOver limit w e f w' → IsDone limit (kept_of w) e (Err f) (kept_of w')
-passed_done limit w w' e Full over = absurd over
-passed_done limit w w' e Stale over = absurd over
-passed_done limit w w' e NoMemory over = inl (ap kept_of over)
-passed_done limit w w' e Held over = inl (over.0, passed_kept w w' e over.1)
-
-held_by_many : (most : ℕ) → (most ≤ 1 → Held ≡ NoMemory) → 2 ≤ most
-held_by_many zero one = let is = one (omega arith) in absurd (cc (is))
-held_by_many (suc zero) one = let is = one (omega arith) in absurd (cc (is))
-held_by_many (suc (suc n)) one = omega arith
-
-pub passed_behind : (limit most : ℕ) (w w' : Written) (e : Entry) (f : PutFault) → PassesOver limit w e f w' → (most ≤ 1 → f ≡ NoMemory) → IsBehindHeld most (Err f)
-passed_behind limit most w w' e Full over one = absurd over
-passed_behind limit most w w' e Stale over one = absurd over
-passed_behind limit most w w' e NoMemory over one = inl refl
-passed_behind limit most w w' e Held over one = inr (refl, held_by_many most one)
 
 -- ---- what the outcome says
 
@@ -222,14 +205,6 @@ replies_append limit first [] [] kept more behind are = refl
 replies_append limit first [] (a ∷ outcomes) kept more behind are = absurd are
 replies_append limit first (e ∷ entries) [] kept more behind are = absurd are
 replies_append limit first (e ∷ entries) (a ∷ outcomes) kept more behind are = ap (λ l. record { origin = e.origin; outcome = a } ∷ l) (replies_append limit are.0 entries outcomes kept more behind are.2)
-
-or_left : (a b : Bool) → a ≡ true → (a || b) ≡ true
-or_left true b is = refl
-or_left false b is = absurd (cc (is))
-
-or_right : (a b : Bool) → b ≡ true → (a || b) ≡ true
-or_right true b is = refl
-or_right false b is = is
 
 or_assoc : (a b c : Bool) → (a || (b || c)) ≡ ((a || b) || c)
 or_assoc true b c = refl
@@ -446,10 +421,3 @@ put_refusing {most} limit w held rest replies refused left are number none = rec
   behind = (λ is. refused_all most rest);
   held_is = sym (ap (λ h. held || h) (refused_unheld rest) ∙ or_false held);
 }
-
--- all of the job is put
-pub all_put : {most : ℕ} (limit : ℕ) (w : Written) (changes : List Entry) (replies : List ReplyValue) (refused : ℕ) (held : Bool) (rest : List Entry) (w' : Written) → rest ≡ [] → ArePut limit most w false changes replies refused held rest w' → AreReplied limit most w changes replies refused w'
-all_put {most} limit w changes replies refused held rest w' none p =
-    let same : changes ≡ p.first = p.are ∙ (ap (λ l. p.first ++ l) none ∙ append-nil p.first) in
-    let P : List Entry → Type 0 = λ l. AreReplied limit most w l replies refused w' in
-    subst P (sym same) p.replied

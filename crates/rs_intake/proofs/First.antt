@@ -1,15 +1,14 @@
 -- What the writer kept when it began: entries of its own place, none of them a Sweep.
-use Rattle.std.proofs.Common.{◌≡◌, ◌⊎◌, ⊎_elim, inl, inr, ◌==◌, ℕ, zero, suc, ◌<◌, Bool, false, List, [], ◌∷◌, ◌++◌, map, refl, sym, ap, subst, ◌∙◌, append-nil, arith}
-use Rattle.std.specs.List.{filter}
+use Rattle.std.proofs.Common.{◌≡◌, ⊎_elim, ◌==◌, ℕ, ◌<◌, false, List, [], ◌∷◌, ◌++◌, map, refl, sym, ap, subst, ◌∙◌, append-nil, arith}
 use Rattle.std.specs.List.Sorted.{IsStrictlySortedBy}
 use Rattle.std.specs.Ordering.{nat_cmp}
+use Rattle.std.proofs.Math.Nat.{eq-zero-or-pos}
 use Rattle.std.proofs.lemmas.Bool.Decides.{nat_tests}
-use Rattle.std.proofs.lemmas.List.{map-append}
-use Rattle.std.proofs.lemmas.List.Elements.{filter-append}
 use Rattle.rs_message.specs.Messages.{is_sweep}
 use Rattle.rs_message.specs.declared.entry.Entry.{Entry}
 use Rattle.rs_store.specs.History.{SerialsRise, serials_of}
 use Rattle.rs_store.specs.Needed.{AreNeeded}
+use Rattle.rs_store.proofs.Histories.{serials_of-append}
 use Rattle.rs_version.specs.First.{AreOwn}
 use Rattle.rs_intake_queue.specs.Parts.{IsPart}
 use Rattle.rs_intake_queue.specs.QueueRule.{of_place}
@@ -57,24 +56,15 @@ kept_from_first limit first own rises =
 
 -- ---- serials
 
-pub serials_both : (place : ℕ) (xs ys : List Entry) → serials_of place (xs ++ ys) ≡ serials_of place xs ++ serials_of place ys
-serials_both place xs ys =
-    let p : Entry → Bool = λ e. e.origin.place == place in
-    ap (λ w. map (λ (e : Entry). e.origin.serial) w) (filter-append p xs ys) ∙ map-append (λ (e : Entry). e.origin.serial) (filter p xs) (filter p ys)
-
-pub none_or_more : (n : ℕ) → (n ≡ 0) ⊎ (0 < n)
-none_or_more zero = inl refl
-none_or_more (suc n) = inr (omega arith)
-
 -- they rise behind what is of the writer's own place, if they rise and none is of it
 pub rises_behind : (first entries : List Entry) → AreOwn first → SerialsRise first → of_place 0 entries ≡ [] → SerialsRise entries → SerialsRise (first ++ entries)
 rises_behind first entries own rises none more place = ⊎_elim
     (λ (here : place ≡ 0).
     let theirs : serials_of place entries ≡ [] = ap (λ (p : ℕ). serials_of p entries) here ∙ ap (λ (l : List Entry). map (λ (e : Entry). e.origin.serial) l) none in
-    let is : serials_of place (first ++ entries) ≡ serials_of place first = serials_both place first entries ∙ (ap (λ (l : List ℕ). serials_of place first ++ l) theirs ∙ append-nil (serials_of place first)) in
+    let is : serials_of place (first ++ entries) ≡ serials_of place first = serials_of-append place first entries ∙ (ap (λ (l : List ℕ). serials_of place first ++ l) theirs ∙ append-nil (serials_of place first)) in
     subst (IsStrictlySortedBy nat_cmp) (sym is) (rises place))
     (λ (some : 0 < place).
     let ours : serials_of place first ≡ [] = ap (λ (l : List Entry). map (λ (e : Entry). e.origin.serial) l) (own_elsewhere place some first own) in
-    let is : serials_of place (first ++ entries) ≡ serials_of place entries = serials_both place first entries ∙ ap (λ (l : List ℕ). l ++ serials_of place entries) ours in
+    let is : serials_of place (first ++ entries) ≡ serials_of place entries = serials_of-append place first entries ∙ ap (λ (l : List ℕ). l ++ serials_of place entries) ours in
     subst (IsStrictlySortedBy nat_cmp) (sym is) (more place))
-    (none_or_more place)
+    (eq-zero-or-pos place)

@@ -1,5 +1,6 @@
 -- Where as many jobs were taken as sent, the queue holds none.
 use Rattle.std.proofs.Common.{◌≡◌, ◌≢◌, ◌==◌, ℕ, zero, suc, ◌+◌, ◌<◌, ◌≤◌, ◌⊎◌, inl, inr, ⊎_elim, Bool, true, false, cond, List, [], ◌∷◌, ◌++◌, length, filter, All, refl, sym, ap, subst, ◌∙◌, arith, length-append}
+use Rattle.std.proofs.Math.Nat.{eq-zero-or-pos}
 use Rattle.std.proofs.lemmas.Bool.{cases_lt}
 use Rattle.std.proofs.lemmas.List.{append-nil, nil_from_length}
 use Rattle.std.specs.List.{AllByRecursion}
@@ -8,20 +9,13 @@ use Rattle.rs_message.specs.declared.entry.Entry.{Entry}
 use Rattle.rs_intake_queue.specs.declared.job.Job.{Job}
 use Rattle.rs_intake_queue.specs.declared.job.Job.TheVariants.{Put, End}
 use Rattle.rs_intake_queue.specs.QueueRule.{at_place, of_place, entries_in, entries_of, IsOutside, IsPlaced}
+use Rattle.rs_intake_queue.proofs.Queues.{none_right, of_place-head}
 use Rattle.rs_intake.specs.Causes.{HaveEnded}
 use Rattle.rs_intake_queue.specs.Ends.{Closed}
 use Rattle.rs_intake_queue.specs.declared.rule.SentFrom.{SentFrom}
 use Rattle.std.proofs.lemmas.List.Elements.{All-append, All-weaker, filter-append}
 use mathlib.Core.List.{IsPrefix}
 use Rattle.rs_intake.specs.Settling.{Covers, ends_at, EachOnce, sent_in_all, AreOfPlaces, AreTaken, AreTakenInOrder, BalancesWith}
-
-append_nil_right : {A : Type 0} (xs ys : List A) → xs ++ ys ≡ [] → ys ≡ []
-append_nil_right [] ys none = none
-append_nil_right (x ∷ xs) ys none = absurd (cc (none))
-
-zero_or_more : (n : ℕ) → (n ≡ 0) ⊎ (0 < n)
-zero_or_more zero = inl refl
-zero_or_more (suc n) = inr (omega arith)
 
 all_head : {A : Type 0} (P : A → Type 0) (x : A) (xs : List A) → All P (x ∷ xs) → P x
 all_head P x xs all = all 0 x (omega arith)
@@ -83,13 +77,6 @@ of_place-tail place x xs e = go (x.origin.place == place) e
     go : (b : Bool) → cond b (x ∷ of_place place xs) (of_place place xs) ≡ [] → of_place place xs ≡ []
     go true e = absurd (cc (e))
     go false e = e
-
-of_place-head : (x : Entry) (xs : List Entry) → of_place x.origin.place (x ∷ xs) ≡ [] → ⊥
-of_place-head x xs e = let is : (x.origin.place == x.origin.place) ≡ true = grind (arith, nat_tests) in go (x.origin.place == x.origin.place) is e
-  where
-    go : (b : Bool) → b ≡ true → cond b (x ∷ of_place x.origin.place xs) (of_place x.origin.place xs) ≡ [] → ⊥
-    go true is e = cc (e)
-    go false is e = cc (is)
 
 length-of_place : (place : ℕ) (x : Entry) (xs : List Entry) → length (of_place place (x ∷ xs)) ≡ cond (x.origin.place == place) 1 0 + length (of_place place xs)
 length-of_place place x xs = go (x.origin.place == place)
@@ -174,13 +161,13 @@ none_left places place taken rest ended all out nothing =
     (λ (no_end : at_place place ended ≡ []).
     let few : length (at_place place ended) ≡ 0 = ap length no_end in
     ⊎_elim
-    (λ (none : place ≡ 0). let whole = sym parts ∙ out place (inl none) in by (append_nil_right _ _ whole))
+    (λ (none : place ≡ 0). let whole = sym parts ∙ out place (inl none) in by (none_right _ _ whole))
     (λ (some : 0 < place).
     ⊎_elim
-    (λ (beyond : places < place). let whole = sym parts ∙ out place (inr beyond) in by (append_nil_right _ _ whole))
+    (λ (beyond : places < place). let whole = sym parts ∙ out place (inr beyond) in by (none_right _ _ whole))
     (λ (within : place ≤ places). absurd (let one = all place some within in omega (arith, one, few)))
     (cases_lt places place))
-    (zero_or_more place))
+    (eq-zero-or-pos place))
     (λ none. by none)
     nothing
 

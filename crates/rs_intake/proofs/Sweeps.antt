@@ -4,6 +4,7 @@ use Rattle.std.specs.List.{AllByRecursion, filter}
 use Rattle.std.specs.List.Sorted.{IsStrictlySortedBy}
 use Rattle.std.specs.Ordering.{nat_cmp}
 use Rattle.std.specs.Prelude.{Contains}
+use Rattle.std.proofs.Math.Nat.{eq-zero-or-pos}
 use Rattle.std.proofs.lemmas.List.{append-nil}
 use Rattle.std.proofs.lemmas.List.Elements.{Contains-append_left, Contains-append_right, filter-append}
 use Rattle.std.proofs.lemmas.Bool.Decides.{nat_tests}
@@ -11,7 +12,7 @@ use Rattle.rs_message.specs.Messages.{is_sweep}
 use Rattle.rs_message.specs.declared.entry.Entry.{Entry}
 use Rattle.rs_store.specs.Adding.{Adds}
 use Rattle.rs_store.specs.History.{IsLegal, NeedsSweepAfter, SerialsRise, cleaned, extended, last_serial, serials_of, sweep_after}
-use Rattle.rs_store.proofs.Histories.{last_is_above, legal_front, serials_rise_more}
+use Rattle.rs_store.proofs.Histories.{last_is_above, legal_front, serials_of-append, serials_rise_more}
 use Rattle.rs_store.proofs.Needed.{all_needed, needed_cleaned, needed_more, needed_weaker}
 use Rattle.rs_version.specs.Writer.{RefusesOf, Written, kept_of, released, shows}
 use Rattle.rs_version.specs.declared.fault.PutFault.TheVariants.{Held, NoMemory}
@@ -19,7 +20,6 @@ use Rattle.rs_intake_queue.specs.Parts.{IsPart}
 use Rattle.rs_intake_queue.specs.QueueRule.{of_place}
 use Rattle.rs_intake_line.specs.Sweeps.{AreForEntries, IsKeptFrom, IsSweptAtMost, without_sweeps}
 use Rattle.rs_intake_queue.proofs.Parts.{part_both, part_rises, part_skip}
-use Rattle.rs_intake.proofs.First.{none_or_more, serials_both}
 
 -- ---- without the Sweeps
 
@@ -182,10 +182,6 @@ no_memory_kept limit w e w' (inr (inl r)) = ⊎_elim
     r.1
 no_memory_kept limit w e w' (inr (inr r)) = inl r.1.0
 
--- an entry that is held behind another is the last that is kept
-pub passed_kept : (w w' : Written) (e : Entry) → w' ≡ record { published = w.published; held = w.held ++ e ∷ [] } → kept_of w' ≡ extended (kept_of w) e
-passed_kept w w' e is = ap kept_of is ∙ sym (append_assoc w.published w.held (e ∷ []))
-
 -- ---- all changes of a job
 
 part_all : (xs ys zs : List Entry) → IsPart xs ys → IsPart (xs ++ zs) (ys ++ zs)
@@ -211,12 +207,12 @@ pub all_rise : (limit : ℕ) (entries kept rest : List Entry) → IsKeptFrom lim
 all_rise limit entries kept rest s above rises place = ⊎_elim
     (λ (here : place ≡ 0).
     let theirs : serials_of place rest ≡ [] = ap (λ (p : ℕ). serials_of p rest) here ∙ ap (λ (l : List Entry). map (λ (e : Entry). e.origin.serial) l) (none_of_writer rest above) in
-    let is : serials_of place (kept ++ rest) ≡ serials_of place kept = serials_both place kept rest ∙ (ap (λ (l : List ℕ). serials_of place kept ++ l) theirs ∙ append-nil (serials_of place kept)) in
+    let is : serials_of place (kept ++ rest) ≡ serials_of place kept = serials_of-append place kept rest ∙ (ap (λ (l : List ℕ). serials_of place kept ++ l) theirs ∙ append-nil (serials_of place kept)) in
     subst (IsStrictlySortedBy nat_cmp) (sym is) (s.rises place))
     (λ (some : 0 < place).
     let part : SerialsRise (without_sweeps kept ++ rest) = part_rises (without_sweeps kept ++ rest) (entries ++ rest) (part_all (without_sweeps kept) entries rest s.part) rises in
     let zeros = all_needed limit (Contains entries) (λ e. e.origin.place ≡ 0) (λ history moment. refl) [] kept s.sweeps.needed in
-    let is : serials_of place (kept ++ rest) ≡ serials_of place (without_sweeps kept ++ rest) = serials_both place kept rest
-    ∙ (ap (λ (l : List ℕ). l ++ serials_of place rest) (sym (same_serials place some kept zeros)) ∙ sym (serials_both place (without_sweeps kept) rest)) in
+    let is : serials_of place (kept ++ rest) ≡ serials_of place (without_sweeps kept ++ rest) = serials_of-append place kept rest
+    ∙ (ap (λ (l : List ℕ). l ++ serials_of place rest) (sym (same_serials place some kept zeros)) ∙ sym (serials_of-append place (without_sweeps kept) rest)) in
     subst (IsStrictlySortedBy nat_cmp) (sym is) (part place))
-    (none_or_more place)
+    (eq-zero-or-pos place)

@@ -46,6 +46,7 @@ pub fn run_writer<N: LineName, S: StoreWriter<N>, W: Wait>(
     ensures sweeps { AreForEntries N.limit result.received.entries (kept_of (S.written result.writer)) }
     ensures held { listed result.held ≡ take 1 (map (λ e. e.origin) (S.written result.writer).held) }
     ensures few { length (S.written result.writer).held ≤ S.most_held }
+    ensures idle { S.ready result.writer ≡ [] }
     ensures done { IsWritten N.limit N.places (kept_of (S.written writer)) result.received.entries (kept_of (S.written result.writer)) result.ways.items }
     ensures cause { IsCause N.places u64.MAX result.received result.cause }
 {
@@ -68,6 +69,7 @@ pub fn run_writer_for<N: LineName, S: StoreWriter<N>, W: Wait>(
     ensures sweeps { AreForEntries N.limit result.received.entries (kept_of (S.written result.writer)) }
     ensures held { listed result.held ≡ take 1 (map (λ e. e.origin) (S.written result.writer).held) }
     ensures few { length (S.written result.writer).held ≤ S.most_held }
+    ensures idle { S.ready result.writer ≡ [] }
     ensures done { IsWritten N.limit N.places (kept_of (S.written writer)) result.received.entries (kept_of (S.written result.writer)) result.ways.items }
     ensures cause { IsCause N.places most result.received result.cause }
 {

@@ -1,10 +1,11 @@
 //! The ways back to all lines: the writer puts a job, and sends the replies to its line.
 
-ghost use Rattle.std.specs.Prelude.{◌≡◌, ◌+◌, ◌-◌, ◌<◌, ◌≤◌, ◌||◌, ◌∷◌, ◌++◌, [], List, true, false, drop, length, take, vec_capacity};
+ghost use Rattle.std.specs.Prelude.{◌≡◌, ◌+◌, ◌-◌, ◌<◌, ◌≤◌, ◌||◌, ◌∷◌, ◌++◌, [], List, true, false, drop, length, take, vec_capacity, Decides};
 ghost use Rattle.rs_message.specs.Messages.{is_sweep};
 ghost use Rattle.rs_message.specs.declared.entry.Entry.{Entry};
 ghost use Rattle.rs_store.specs.History.{SerialsRise, extended};
 ghost use Rattle.rs_version.specs.Writer.{IsNextOf, IsReadyFor, kept_of};
+ghost use Rattle.rs_intake.specs.declared.ways_back.TheConstants.{MANY_JOBS};
 ghost use Rattle.rs_intake_queue.specs.Changes.{place_of_all};
 ghost use Rattle.rs_intake_line.specs.Done.{AreReplied, IsBehindHeld, IsDone, IsOutcome, IsPut, ReplyValue, is_held};
 ghost use Rattle.rs_intake_line.specs.Sending.{AreSentNext, AreSentTo, AreToPut, ArePut};
@@ -187,6 +188,38 @@ fn put_alone<N: LineName, S: StoreWriter<N>, W: Wait>(
     refused
 }
 
+/// So many jobs of one line in a row tell the line that it is alone: no other waits behind a further job of it.
+const MANY_JOBS: u8 = 4;
+
+/// The last jobs that were put and are of one place, one after the other.
+#[derive(Drop)]
+struct JobRow {
+    place: u16,
+    // How many jobs, up to the greatest number.
+    count: u8,
+}
+
+impl JobRow {
+    /// Before the first job.
+    fn empty() -> JobRow {
+        JobRow { place: 0, count: 0 }
+    }
+
+    /// Counts a further job, of this place. Whether at least [`MANY_JOBS`] jobs in a row before it were of this place, too.
+    fn add(&mut self, place: u16) -> bool
+        ensures place { self.new.place ≡ place }
+        ensures alone { Decides result ((self.old.place ≡ place) × (MANY_JOBS ≤ self.old.count)) }
+    {
+        if self.place != place {
+            *self = JobRow { place, count: 1 };
+            return false;
+        }
+        let is_alone = self.count >= MANY_JOBS;
+        self.count = self.count.saturating_add(1);
+        is_alone
+    }
+}
+
 /// The writer's ends of the ways back to the lines, that of place 1 first. A line learns only what is sent by its way back, and
 /// only [`WaysBack::put_job`] sends.
 #[derive(Drop)]
@@ -196,6 +229,7 @@ pub struct WaysBack<N: LineName> {
     // It is empty, and has the capacity for what is left of each.
     ends: Vec<WayEnd<N>>,
     fullness: FullnessWriter,
+    row: JobRow,
     ghost reserved: { (ends.items ≡ []) × (length senders.items ≤ vec_capacity ends) },
 }
 
@@ -214,6 +248,7 @@ impl<N: LineName> WaysBack<N> {
             senders,
             ends,
             fullness,
+            row: JobRow::empty(),
         }
     }
 
@@ -234,8 +269,11 @@ impl<N: LineName> WaysBack<N> {
         ensures replied { (replies : List ReplyValue) × AreReplied N.limit S.most_held (S.written writer.old) changes replies result (S.written writer.new)
             × AreSentTo (place_of_all changes) self.old.senders.items replies self.new.senders.items }
     {
-        let index = changes.place() as usize - 1;
+        let place = changes.place();
+        let is_alone = self.row.add(place);
+        let index = place as usize - 1;
         let to = &mut self.senders[index];
+        to.set_alone(is_alone);
         let entries = match changes.into_entries() {
             Entries::One(entry) => {
                 return put_alone(rt, to, &mut self.fullness, writer, entry);
@@ -270,6 +308,7 @@ impl<N: LineName> WaysBack<N> {
             senders,
             mut ends,
             fullness: _fullness,
+            row: _,
         } = self;
         for sender in senders {
             let Ok(()) = ends.push(sender.end()) else {

@@ -267,6 +267,7 @@ impl<N: LineName, S: StoreWriter<N>> JobWriter<N, S> {
         ensures kept { kept_of (S.written result.writer) ≡ kept_of self.writer }
         ensures held { listed result.held ≡ take 1 (map (λ e. e.origin) (S.written result.writer).held) }
         ensures few { length (S.written result.writer).held ≤ S.most_held }
+        ensures idle { S.ready result.writer ≡ [] }
         ensures under_way { IsUnderWay N.limit N.places self }
     {
         let JobWriter {

@@ -65,30 +65,41 @@ numbered_next : (place serial : ℕ) (os : List Operation) → AreNext place ser
 numbered_next place serial [] = tt
 numbered_next place serial (o ∷ os) = (refl, numbered_next place (serial + 1) os)
 
+-- the same behind those that have the serials before
+next_more : (place serial : ℕ) (es : List Entry) (os : List Operation) → AreNext place serial es → AreNext place serial (es ++ numbered place (serial + length es) os)
+next_more place serial [] os next =
+    let P : ℕ → Type 0 = λ n. AreNext place serial (numbered place n os) in
+    let same : serial ≡ serial + 0 = omega arith in
+    subst P same (numbered_next place serial os)
+next_more place serial (e ∷ es) os next =
+    let P : ℕ → Type 0 = λ n. AreNext place (serial + 1) (es ++ numbered place n os) in
+    let same : serial + 1 + length es ≡ serial + length (e ∷ es) = omega arith in
+    (next.0, subst P same (next_more place (serial + 1) es os next.1))
+
 -- ---- the line's parts
 
 -- what is announced may be sent
-pub seat_above : (place serial : ℕ) (taken ahead : List Entry) (os : List Operation) → ahead ≡ [] → IsSeatLine place serial taken ahead → AreAbove taken (numbered place serial os)
-seat_above place serial taken ahead os none l = let low = l.last in let zero = ap length none in numbered_above place serial os taken (omega (arith, low, zero))
+pub seat_above : (place serial : ℕ) (taken ahead : List Entry) (os : List Operation) → IsSeatLine place serial taken ahead → AreAbove taken (numbered place (serial + length ahead) os)
+seat_above place serial taken ahead os l = numbered_above place (serial + length ahead) os taken l.last
 
-pub seat_sends : (place serial : ℕ) (taken taken' ahead ahead' : List Entry) (os : List Operation) → ahead ≡ [] → taken' ≡ taken ++ numbered place serial os → ahead' ≡ numbered place serial os → serial + length ahead' < 2 ^ 64
-    → IsSeatLine place serial taken ahead → IsSeatLine place serial taken' ahead'
-seat_sends place serial taken taken' ahead ahead' os none more is fits l =
-    let low = l.last in
+pub seat_sends : (place serial : ℕ) (taken taken' ahead ahead' : List Entry) (os : List Operation) → taken' ≡ taken ++ numbered place (serial + length ahead) os → ahead' ≡ ahead ++ numbered place (serial + length ahead) os
+    → serial + length ahead + length os < 2 ^ 64 → IsSeatLine place serial taken ahead → IsSeatLine place serial taken' ahead'
+seat_sends place serial taken taken' ahead ahead' os more is fits l =
+    let job = numbered place (serial + length ahead) os in
     let count = l.count in
-    let zero = ap length none in
-    let n = numbered_length place serial os in
-    let sum = length-append taken (numbered place serial os) in
-    let top = numbered_last place serial os taken (omega (arith, low, zero)) in
+    let n = numbered_length place (serial + length ahead) os in
+    let all = length-append ahead job in
+    let sum = length-append taken job in
+    let top = numbered_last place (serial + length ahead) os taken l.last in
     let P : List Entry → Type 0 = λ t. IsSeatLine place serial t ahead' in
-    let Q : List Entry → Type 0 = λ a. IsSeatLine place serial (taken ++ numbered place serial os) a in
+    let Q : List Entry → Type 0 = λ a. IsSeatLine place serial (taken ++ job) a in
     subst P (sym more) (subst Q (sym is)
     (record {
-      end = end_is (taken ++ numbered place serial os) taken (numbered place serial os) refl;
-      next = numbered_next place serial os;
-      fits = (let same = ap length is in omega (arith, fits, same));
-      last = omega (arith, top, n);
-      count = omega (arith, sum, count, zero);
+      end = end_is (taken ++ job) (before taken ahead) (ahead ++ job) (ap (λ t. t ++ job) l.end ∙ append_assoc (before taken ahead) ahead job);
+      next = next_more place serial ahead os l.next;
+      fits = omega (arith, fits, all, n);
+      last = omega (arith, top, all, n);
+      count = omega (arith, sum, count, all);
     }))
 
 pub seat_submits : (place serial serial' : ℕ) (taken ahead ahead' : List Entry) (e : Entry) → serial' ≡ serial + 1 → ahead ≡ e ∷ ahead'

@@ -1,12 +1,14 @@
 //! What a line sent and did not submit yet.
 
-ghost use Rattle.std.specs.Prelude.{◌≡◌, ◌≢◌, ◌+◌, ◌<◌, ◌≤◌, ◌^◌, ◌∷◌, [], List, length, false, IfSome, MatchBool, MatchOption};
+ghost use Rattle.std.specs.Prelude.{◌≡◌, ◌≢◌, ◌+◌, ◌<◌, ◌≤◌, ◌^◌, ◌∷◌, ◌++◌, [], List, length, take, false, IfSome, MatchBool, MatchOption};
 ghost use Rattle.std.specs.List.{AllByRecursion};
 ghost use Rattle.rs_message.specs.Messages.{is_sweep};
 ghost use Rattle.rs_message.specs.declared.entry.Entry.{Entry};
 ghost use Rattle.rs_message.specs.declared.entry.TheConstants.{MAX_LINES};
 ghost use Rattle.rs_intake_queue.specs.Changes.{numbered};
 ghost use Rattle.rs_intake_queue.specs.declared.job.TheConstants.{MAX_CHANGES};
+ghost use Rattle.rs_intake_line.specs.Waiting.{listed};
+ghost use Rattle.rs_intake_line.specs.declared.announced.Waiting.TheVariants.{One};
 
 use rs_intake_queue::{Changes, prepare, prepare_next};
 use rs_message::{Entry, Operation};
@@ -23,10 +25,25 @@ pub enum Waiting {
     Many(VecDeque<Entry>),
 }
 
+impl Waiting {
+    /// How many there are.
+    fn len(&self) -> usize
+        ensures { result ≡ length (listed self.now) }
+    {
+        match self {
+            Waiting::One(Some(_)) => 1,
+            Waiting::One(None) => 0,
+            Waiting::Many(entries) => entries.len(),
+        }
+    }
+}
+
 /// The entries that were sent ahead and are not submitted yet. Contracts see a list.
 #[derive(Drop)]
 pub struct Ahead {
     entries: Waiting,
+    // How many entries the last job had.
+    last: usize,
 }
 
 impl Model for Ahead {
@@ -39,6 +56,37 @@ impl Model for Ahead {
     ghost view = { λ a. listed a.entries };
 }
 
+/// Appends them. Whether there was memory for that; if not, nothing changed.
+fn append_to(entries: &mut VecDeque<Entry>, more: Waiting) -> bool
+    ensures { MatchBool result (entries.new.items ≡ entries.old.items ++ listed more) (entries.new.items ≡ entries.old.items) }
+{
+    match more {
+        Waiting::One(None) => true,
+        Waiting::One(Some(entry)) => entries.push_back(entry).is_ok(),
+        Waiting::Many(more) => {
+            let mut more = more;
+            entries.append(&mut more).is_ok()
+        }
+    }
+}
+
+/// The first, and the others behind it, in one block of memory. `None` if memory was refused, and then the first is where it was.
+fn join_behind(alloc: Global, first: &mut Option<Entry>, more: Waiting) -> Option<VecDeque<Entry>>
+    ensures { MatchOption result (first.new ≡ first.old) (λ all. all.items ≡ listed (One first.old) ++ listed more) }
+{
+    let mut all = VecDeque::with_capacity(alloc, more.len().saturating_add(1)).ok()?;
+    if !append_to(&mut all, more) {
+        return None;
+    }
+    if let Some(entry) = first.take() {
+        if let Err(refused) = all.push_front(entry) {
+            *first = Some(refused.value);
+            return None;
+        }
+    }
+    Some(all)
+}
+
 impl Ahead {
     /// Nothing is ahead.
     pub(crate) fn empty() -> Ahead
@@ -46,6 +94,7 @@ impl Ahead {
     {
         Ahead {
             entries: Waiting::One(None),
+            last: 0,
         }
     }
 
@@ -55,6 +104,7 @@ impl Ahead {
     {
         Ahead {
             entries: Waiting::One(Some(entry)),
+            last: 1,
         }
     }
 
@@ -62,8 +112,10 @@ impl Ahead {
     fn many(entries: VecDeque<Entry>) -> Ahead
         ensures { result ≡ entries.items }
     {
+        let last = entries.len();
         Ahead {
             entries: Waiting::Many(entries),
+            last,
         }
     }
 
@@ -71,11 +123,7 @@ impl Ahead {
     pub(crate) fn len(&self) -> usize
         ensures { result ≡ length self.now }
     {
-        match &self.entries {
-            Waiting::One(Some(_)) => 1,
-            Waiting::One(None) => 0,
-            Waiting::Many(entries) => entries.len(),
-        }
+        self.entries.len()
     }
 
     /// Whether there is none.
@@ -102,6 +150,50 @@ impl Ahead {
         match &mut self.entries {
             Waiting::One(entry) => entry.take(),
             Waiting::Many(entries) => entries.pop_front(),
+        }
+    }
+
+    /// Whether all are of the job that was sent last.
+    pub(crate) fn is_one_job(&self) -> bool {
+        self.len() <= self.last
+    }
+
+    /// Appends those of a further job. Takes no memory if nothing is ahead. Whether there was memory for that; if not, nothing changed.
+    pub(crate) fn append(&mut self, more: Ahead, alloc: Global) -> bool
+        ensures { MatchBool result (self.new ≡ self.old ++ more) (self.new ≡ self.old) }
+    {
+        if self.is_empty() {
+            *self = more;
+            return true;
+        }
+        let Ahead { entries, last } = more;
+        let has_memory = match &mut self.entries {
+            Waiting::One(first) => match join_behind(alloc, first, entries) {
+                Some(all) => {
+                    self.entries = Waiting::Many(all);
+                    true
+                }
+                None => false,
+            },
+            Waiting::Many(all) => append_to(all, entries),
+        };
+        if has_memory {
+            self.last = last;
+        }
+        has_memory
+    }
+
+    /// The first `count` alone.
+    pub(crate) fn truncate(&mut self, count: usize)
+        ensures { self.new ≡ take count self.old }
+    {
+        match &mut self.entries {
+            Waiting::One(entry) => {
+                if count == 0 {
+                    *entry = None;
+                }
+            }
+            Waiting::Many(entries) => entries.truncate(count),
         }
     }
 }

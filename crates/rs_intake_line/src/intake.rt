@@ -24,7 +24,7 @@ pub struct Intake<N: LineName> {
 }
 
 /// The fault that a line answers for the writer's refusal.
-fn fault_of(fault: PutFault) -> SubmitFault
+fn submit_fault_of(fault: PutFault) -> SubmitFault
     ensures fault { result ≡ fault_for fault }
     ensures open { result ≢ Closed }
 {
@@ -54,7 +54,7 @@ pub fn read_reply<N: LineName>(
     }
     let receipt = match outcome {
         Ok(receipt) => receipt,
-        Err(fault) => return Err(fault_of(fault)),
+        Err(fault) => return Err(submit_fault_of(fault)),
     };
     // For the proof: the token's call says that its list is legal.
     let _told = receipt.told();

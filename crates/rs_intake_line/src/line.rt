@@ -208,7 +208,7 @@ impl<N: LineName> LineEnd<N> {
 /// A client's way to the writer and back, with the last serial that was submitted. Nobody else uses it.
 ///
 /// Changes that are announced ([`expect`](SeatLine::expect)) go to the writer together, in one job. They are ahead then: they were sent,
-/// and are not submitted yet. The queue took what was sent and submitted, and then what is ahead.
+/// and are not submitted yet. The queue took what was sent and submitted, and then what is ahead, which is of at most two jobs.
 #[derive(Drop)]
 pub struct SeatLine<N: LineName> {
     line: LineSender<N>,
@@ -288,34 +288,53 @@ impl<N: LineName> SeatLine<N> {
         self.replies.share();
     }
 
-    /// Says which changes come next, none a Sweep. They are sent at once, as one job, and are ahead then, under the next serials. Nothing
-    /// is sent if something is ahead, if they are none or more than [`MAX_CHANGES`], if no serials are left for all, if memory is refused
-    /// or short, or if the queue is gone.
+    /// Whether one more job may be sent: what is ahead is of one job at most, since the way back has space for the replies to two.
+    fn has_space(&self) -> bool {
+        self.ahead.is_empty() || self.ahead.is_one_job()
+    }
+
+    /// Whether a job is better sent while something is ahead, so that the writer has it when it has put the one before: the writer's last jobs
+    /// were all of this line, so nobody waits behind a further one, and one more job may be sent.
+    pub fn runs_ahead(&self) -> bool {
+        self.replies.is_alone() && self.has_space()
+    }
+
+    /// Says which changes come next, behind what is ahead, none a Sweep. They are sent at once, as one job, and are ahead then, under the next
+    /// serials. Nothing is sent if they are none, if more than [`MAX_CHANGES`] or more than two jobs would be ahead, if no serials are left for
+    /// all, if memory is refused or short, or if the queue is gone.
     pub fn expect<R: Wait>(&mut self, rt: &R, changes: Vec<Operation>)
         requires { All (λ o. is_sweep o ≡ false) changes.items }
         ensures ahead { (self.new.ahead ≡ self.old.ahead)
-            ⊎ ((self.old.ahead ≡ []) × (self.new.ahead ≡ numbered self.old.place self.old.serial changes.items)) }
+            ⊎ (self.new.ahead ≡ self.old.ahead ++ numbered self.old.place (self.old.serial + length self.old.ahead) changes.items) }
         ensures place { (self.new.place ≡ self.old.place) × (self.new.serial ≡ self.old.serial) }
         ensures same { (self.new.sent ≡ self.old.sent) × (self.new.heard ≡ self.old.heard) × (self.new.came ≡ self.old.came) }
         ensures gone { self.new.gone ≡ self.old.gone }
     {
-        if !self.ahead.is_empty() || changes.is_empty() || changes.len() > MAX_CHANGES {
+        let count = self.ahead.len();
+        if changes.is_empty() || changes.len() > MAX_CHANGES.saturating_sub(count) {
+            return;
+        }
+        if !self.has_space() {
             return;
         }
         let place = self.line.place();
-        let Some((job, ahead)) = announce(self.alloc, place, self.serial, changes) else {
+        let Some((job, ahead)) = announce(self.alloc, place, self.last_serial(), changes) else {
             return;
         };
-        if let Ok(()) = self.line.send_changes(rt, job) {
-            self.ahead = ahead;
+        if !self.ahead.append(ahead, self.alloc) {
+            return;
+        }
+        match self.line.send_changes(rt, job) {
+            Ok(()) => {}
+            Err(_gone) => self.ahead.truncate(count),
         }
     }
 
-    /// Whether some change was announced and sent, and is not submitted yet.
-    pub fn has_ahead(&self) -> bool
-        ensures { MatchBool result (self.now.ahead ≢ []) (self.now.ahead ≡ []) }
+    /// How many are ahead.
+    pub fn ahead_count(&self) -> usize
+        ensures { result ≡ length self.now.ahead }
     {
-        !self.ahead.is_empty()
+        self.ahead.len()
     }
 
     /// The serial of the last that is ahead, or the last that was submitted.

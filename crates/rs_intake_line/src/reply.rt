@@ -81,6 +81,8 @@ pub enum Replies<N: StoreName> {
 #[derive(Drop)]
 pub struct WriterReplies<N: StoreName> {
     replies: Replies<N>,
+    // Whether the writer's last jobs were all of their line.
+    is_alone: bool,
 }
 
 impl<N: StoreName> Model for WriterReplies<N> {
@@ -123,6 +125,7 @@ impl<N: StoreName> WriterReplies<N> {
     {
         WriterReplies {
             replies: Replies::One(None),
+            is_alone: false,
         }
     }
 
@@ -132,6 +135,7 @@ impl<N: StoreName> WriterReplies<N> {
     {
         WriterReplies {
             replies: Replies::One(Some(reply)),
+            is_alone: false,
         }
     }
 
@@ -141,6 +145,7 @@ impl<N: StoreName> WriterReplies<N> {
     {
         WriterReplies {
             replies: Replies::Many(VecDeque::from_vec(replies), VecDeque::new(alloc)),
+            is_alone: false,
         }
     }
 
@@ -168,6 +173,7 @@ impl<N: StoreName> WriterReplies<N> {
     {
         WriterReplies {
             replies: Replies::Many(VecDeque::new(alloc), changes),
+            is_alone: false,
         }
     }
 
@@ -233,8 +239,8 @@ impl<N: StoreName> Split<WayPass<N>> for Halves {
     ghost right = { receiving_end };
 }
 
-/// How many replies a message has, but the last one to a job: so many that the way back has space for all messages to the job. Contracts
-/// see it as a number.
+/// How many replies a message has, but the last one to a job: so many that the way back has space for all messages to the jobs that are
+/// under way. Contracts see it as a number.
 #[derive(Clone, Copy)]
 pub struct MessageSize {
     size: usize,
@@ -270,6 +276,8 @@ pub struct ReplySender<N: StoreName> {
     gone: Option<Gone>,
     // How many replies each message has at least, but the last one to a job.
     fewest: usize,
+    // What the next messages say.
+    is_alone: bool,
 }
 
 impl<N: StoreName> Model for ReplySender<N> {
@@ -314,6 +322,8 @@ pub struct ReplyReceiver<N: StoreName> {
     polls: Polls,
     patience: Patience,
     came: WriterReplies<N>,
+    // What the last message said.
+    is_alone: bool,
 }
 
 impl<N: StoreName> Model for ReplyReceiver<N> {
@@ -331,19 +341,20 @@ impl<N: StoreName> Model for ReplyReceiver<N> {
         × ((known_by r.pass).replies ≡ before (known_by r.pass).replies r.came ++ r.came) };
 }
 
-/// How many messages the replies to a job are at most, if all but the last have at least so many replies.
+/// How many messages the replies to the jobs under way are at most, if all but the last to each job have at least so many replies. The
+/// replies to two jobs, together to at most [`MAX_CHANGES`] changes, may be one message more than those to one job of as many.
 fn most_messages(fewest: usize) -> usize
     requires { 0 < fewest }
     ensures { (0 < result) × (MAX_CHANGES ≤ result * fewest) }
 {
-    MAX_CHANGES.div_ceil(fewest)
+    MAX_CHANGES.div_ceil(fewest) + 1
 }
 
 /// The two ends of the way back to one line, by which nothing was sent. No message that is sent by it has to have fewer replies than this,
 /// but the last one to a job.
 ///
-/// It has space for all messages with replies to one job. A line sends a job only once it has taken all replies to the one before, so the
-/// writer waits for no line: what it sends for a job finds the way back empty.
+/// It has space for all messages with replies to the jobs under way. A line has at most [`MAX_CHANGES`] changes ahead, of at most two jobs,
+/// and sends no further job before it has taken the replies to all changes that are not ahead. So the writer waits for no line.
 pub fn way_back<N: StoreName>(
     alloc: Global,
     polls: Polls,
@@ -363,6 +374,7 @@ pub fn way_back<N: StoreName>(
             pass,
             gone: None,
             fewest,
+            is_alone: false,
         },
         ReplyReceiver {
             from,
@@ -370,6 +382,7 @@ pub fn way_back<N: StoreName>(
             polls,
             patience: Patience::new(polls.line),
             came: WriterReplies::empty(),
+            is_alone: false,
         },
     ))
 }
@@ -384,6 +397,13 @@ impl<N: StoreName> ReplySender<N> {
         }
     }
 
+    /// The messages from now on say whether the writer's last jobs were all of this line.
+    pub fn set_alone(&mut self, is_alone: bool)
+        ensures { self.new ≡ self.old }
+    {
+        self.is_alone = is_alone;
+    }
+
     /// Sends the replies. If the line is gone, or was for a send before, they are dropped. Takes no memory.
     pub fn send<R: Wait>(&mut self, rt: &R, replies: WriterReplies<N>)
         requires { 0 < length replies }
@@ -392,6 +412,10 @@ impl<N: StoreName> ReplySender<N> {
         if self.gone.is_some() {
             return;
         }
+        let replies = WriterReplies {
+            replies: replies.replies,
+            is_alone: self.is_alone,
+        };
         let sent = send::<WriterReplies<N>, WayPass<N>, ReplyRule, Counting, R>(
             rt,
             &self.to,
@@ -410,6 +434,7 @@ impl<N: StoreName> ReplySender<N> {
             pass,
             gone,
             fewest: _,
+            is_alone: _,
         } = self;
         WayEnd { pass, gone }
     }
@@ -421,6 +446,11 @@ impl<N: StoreName> ReplyReceiver<N> {
         ensures { self.new ≡ self.old }
     {
         self.patience = Patience::new(self.polls.shared);
+    }
+
+    /// Whether the last message said that the writer's last jobs were all of this line.
+    pub(crate) fn is_alone(&self) -> bool {
+        self.is_alone
     }
 
     /// Takes the next reply that came.
@@ -447,6 +477,7 @@ impl<N: StoreName> ReplyReceiver<N> {
             &mut self.pass,
             &mut self.patience,
         )?;
+        self.is_alone = replies.is_alone;
         self.came = replies;
         Ok(())
     }

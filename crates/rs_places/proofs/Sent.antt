@@ -1,8 +1,7 @@
 -- Seats that gates share, and gates, may cross threads, each in one step. They have seats, which read a catalogue of a recursive type.
 use denote.RattleType.{RattleType}
-use denote.Builtin.{u64}
 use denote.Enum.Declared as enum
-use denote.Param.Send.{IsSend, IsSync, enum_send, recorded_send, recorded_sync, sendable, struct_send, struct_sync, view_send}
+use denote.Param.Send.{IsSend, IsSync, enum_send, recorded_send, recorded_sync, struct_send, struct_sync, view_send}
 use denote.Struct.Declared.{shape}
 use Rattle.core.proofs.sync.Sent.{Mutex-send, Mutex-sync}
 use Rattle.core.specs.contracts.sync.Mutex as Mutex
@@ -10,7 +9,7 @@ use Rattle.rs_intake_line.proofs.intake.Intake.TheSendSync as intake
 use Rattle.rs_intake_line.proofs.line.SeatLine.TheSendSync as line
 use Rattle.rs_intake_line.specs.contracts.intake.Intake as Intake
 use Rattle.rs_intake_line.specs.declared.name.LineName as LineName
-use Rattle.rs_version.proofs.Sent.{seat_send}
+use Rattle.rs_version.proofs.Sent.{seat_send, u64_send}
 use Rattle.rs_version.proofs.receipt.Told.TheSendSync as told
 use Rattle.rs_version.specs.contracts.seat.Seat as Seat
 use Rattle.rs_version.specs.declared.history.StoreName as StoreName
@@ -19,9 +18,6 @@ use Rattle.rs_places.specs.contracts.seats.Reads as Reads
 use Rattle.rs_places.specs.contracts.seats.Seats as Seats
 use Rattle.rs_places.specs.contracts.shared_gate.SharedGate as Gate
 use Rattle.rs_places.specs.contracts.shared_gate.SharedGate.TheInside as InGate
-
-u64_send : IsSend u64
-u64_send = search sendable
 
 module _ (N : RattleType) (h : StoreName.Ghosts N.Denot) where
   seats_send : IsSend (Seats.the_row N h)

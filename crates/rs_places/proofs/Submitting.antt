@@ -1,14 +1,15 @@
 -- What a submit leaves of a gate over a seat and its line.
-use Rattle.std.proofs.Common.{◌≡◌, ◌⊎◌, ⊎_elim, Bool, true, false, ℕ, ◌+◌, List, [], ◌∷◌, ◌++◌, length, refl, inl, inr, sym, ap, subst, ◌∙◌, Some, append-nil, arith}
-use Rattle.std.specs.Prelude.{◌≢◌, ◌<◌, ◌^◌, MatchBool, Result, Err}
+use Rattle.std.proofs.Common.{◌≡◌, ◌⊎◌, ℕ, ◌+◌, List, [], ◌∷◌, ◌++◌, length, refl, inl, inr, sym, ap, subst, ◌∙◌, Some, arith}
+use Rattle.std.specs.Prelude.{Result, Err}
+use Rattle.std.proofs.lemmas.List.{map-append}
 use Rattle.rs_message.specs.declared.entry.Entry.{Entry}
 use Rattle.rs_message.specs.declared.entry.Operation.{Operation}
 use Rattle.rs_message.specs.declared.fault.SubmitFault.{SubmitFault}
 use Rattle.rs_message.specs.declared.fault.SubmitFault.TheVariants.{Strange}
 use Rattle.rs_message.specs.declared.fault.SubmitFault.TheVariants as submit_fault
-use Rattle.rs_session.specs.Gate.{Mark, Sends, SendsAtMost, Submits, TakesPending, Uses, UsesIfOpen, entry_by}
+use Rattle.rs_session.specs.Gate.{Mark, Sends, Submits, TakesPending, UsesIfOpen, entry_by}
 use Rattle.rs_intake_queue.specs.Changes.{entry_at, numbered}
-use Rattle.rs_intake_line.specs.Lines.{AddsAtMost, IsAheadAfter, IsOther, Line, next_serial}
+use Rattle.rs_intake_line.specs.Lines.{IsAheadAfter, IsOther, Line}
 use Rattle.rs_intake_line.specs.Refusals.{IsRefused, IsUnsent}
 use Rattle.rs_places_steps.specs.Shared.{SharedValue, operations_of}
 use Rattle.rs_places_steps.proofs.Receipts.{none_handed_over}
@@ -36,15 +37,6 @@ submits_err operation old new outcome fault seen is used =
     subst (λ (a : Result (Unit {0}) SubmitFault). Submits operation old new a seen seen) (sym is)
     (record { handed_over = none_handed_over operation new seen seen refl; submitted = tt; used = used })
 
--- what the line sent, as the mark has it
-pub sends_at_most : (operation : Operation) (before : Mark) (old new : Line) → mark_of old ≡ before → new.place ≡ old.place → AddsAtMost old.sent (entry_at old.place new.serial operation) new.sent
-    → SendsAtMost before.sent (entry_by operation (mark_of new)) (mark_of new).sent
-sends_at_most operation before old new is place adds =
-    let e = entry_by operation (mark_of new) in
-    let P : Mark → Type 0 = λ m. SendsAtMost m.sent e (Some new.sent) in
-    let Q : ℕ → Type 0 = λ p. AddsAtMost old.sent (entry_at p new.serial operation) new.sent in
-    subst P is (⊎_elim (λ (t : new.sent ≡ old.sent). inl (t ∙ sym (append-nil old.sent))) (λ (t : new.sent ≡ old.sent ++ e ∷ []). inr t) (subst Q (sym place) adds))
-
 pub sends_it : (operation : Operation) (before : Mark) (old new : Line) → mark_of old ≡ before → new.place ≡ old.place → new.sent ≡ old.sent ++ entry_at old.place new.serial operation ∷ []
     → Sends before.sent (entry_by operation (mark_of new) ∷ []) (mark_of new).sent
 sends_it operation before old new is place adds =
@@ -57,15 +49,6 @@ sends_it operation before old new is place adds =
 pub other_pending : (ahead : List Entry) (operation : Operation) → IsOther ahead operation → IsOtherPending (operations_of ahead) operation
 other_pending [] operation other = absurd other
 other_pending (e ∷ es) operation other = other
-
-some_pending : (ahead : List Entry) → ahead ≢ [] → operations_of ahead ≢ []
-some_pending [] some = λ none. some refl
-some_pending (e ∷ es) some = λ none. absurd (cc (none))
-
--- whether something is ahead
-pub is_pending : (b : Bool) (ahead : List Entry) (all : List Operation) → operations_of ahead ≡ all → MatchBool b (ahead ≢ []) (ahead ≡ []) → MatchBool b (all ≢ []) (all ≡ [])
-is_pending true ahead all is some = λ none. some_pending ahead some (is ∙ none)
-is_pending false ahead all is none = sym is ∙ ap operations_of none
 
 operations_numbered : (place serial : ℕ) (os : List Operation) → operations_of (numbered place serial os) ≡ os
 operations_numbered place serial [] = refl
@@ -82,10 +65,11 @@ takes_pending (e ∷ es) after operation old new outcome (inr (unlike, left)) ot
     inr (inr (ap operations_of left, refused, same))
 
 -- what is ahead once these changes were announced
-pub announces : (place serial : ℕ) (changes : List Operation) (ahead after : List Entry) → (after ≡ ahead) ⊎ ((ahead ≡ []) × (after ≡ numbered place serial changes))
-    → (operations_of after ≡ changes) ⊎ ((operations_of after ≡ []) ⊎ (operations_of after ≡ operations_of ahead))
-announces place serial changes ahead after (inl same) = inr (inr (ap operations_of same))
-announces place serial changes ahead after (inr sent) = inl (ap operations_of sent.1 ∙ operations_numbered place serial changes)
+pub announces : (place serial : ℕ) (changes : List Operation) (ahead after : List Entry) → (after ≡ ahead) ⊎ (after ≡ ahead ++ numbered place serial changes)
+    → (operations_of after ≡ operations_of ahead ++ changes) ⊎ (operations_of after ≡ operations_of ahead)
+announces place serial changes ahead after (inl same) = inr (ap operations_of same)
+announces place serial changes ahead after (inr sent) =
+    inl (ap operations_of sent ∙ (map-append (λ (e : Entry). e.operation) ahead (numbered place serial changes) ∙ ap (λ l. operations_of ahead ++ l) (operations_numbered place serial changes)))
 
 -- ---- a line that is handed on
 
@@ -102,11 +86,3 @@ pub same_mark : (old new : Line) → new.place ≡ old.place → new.serial ≡ 
 same_mark old new place serial sent =
     let M : ℕ → ℕ → List Entry → Mark = λ p n l. record { place = p; serial = n; sent = Some l } in
     ap (λ p. M p new.serial new.sent) place ∙ (ap (λ n. M old.place n new.sent) serial ∙ ap (λ l. M old.place old.serial l) sent)
-
--- one serial is used at most
-pub uses_one : (old new : Line) (operation : Operation) → new.place ≡ old.place → old.serial < 2 ^ 64 → (new.serial ≡ next_serial old.serial) ⊎ IsOther old.ahead operation → (IsOther old.ahead operation → new.serial ≡ old.serial) → Uses (mark_of old) (mark_of new)
-uses_one old new operation place small (inl next) same =
-    record { place = place; no_lower = omega (arith, next, small); no_higher = omega (arith, next) }
-uses_one old new operation place small (inr other) same =
-    let is = same other in
-    record { place = place; no_lower = omega (arith, is); no_higher = omega (arith, is) }

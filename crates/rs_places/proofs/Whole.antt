@@ -8,6 +8,7 @@ use Rattle.std.proofs.lemmas.List.Elements.{All-more, filter-append, recursion_f
 use Rattle.rs_message.specs.declared.entry.Entry.{Entry}
 use Rattle.rs_store.specs.Adding.{Adds}
 use Rattle.rs_store.specs.History.{IsLegal, sweep_after}
+use Rattle.rs_store.proofs.Entries.{all_push}
 use Rattle.rs_version.specs.First.{AreOwn}
 use Rattle.rs_version.specs.Writer.{Written, kept_of}
 use Rattle.rs_version.specs.declared.fault.PutFault.TheVariants.{Full, Held, NoMemory, Stale}
@@ -16,6 +17,7 @@ use Rattle.rs_intake_queue.specs.Ends.{Closed}
 use Rattle.rs_intake_queue.specs.declared.job.TheConstants.{MAX_CHANGES}
 use Rattle.rs_intake_queue.specs.Parts.{IsPart}
 use Rattle.rs_intake_queue.specs.QueueRule.{of_place}
+use Rattle.rs_intake_queue.proofs.Parts.{part_behind}
 use Rattle.rs_intake_line.specs.Done.{AreDone, IsDone, IsWritten, Outcome, Told, is_refused, not_refused}
 use Rattle.rs_intake.specs.Causes.{HaveEnded, IsCause}
 use Rattle.rs_intake.specs.Settling.{AreOfPlaces, AreTaken, AreTakenInOrder, EachOnce}
@@ -29,16 +31,12 @@ use Rattle.rs_places_steps.specs.Places.{IsPlaceServed, Left, left_at, places_of
 use Rattle.rs_places_steps.specs.Shared.{SharedValue}
 use Rattle.rs_places.specs.Gates.{handed_on}
 use Rattle.rs_places_steps.specs.Within.{ArePublications}
-use Rattle.rs_places.specs.Store.{IsEndOfRun, IsLineOf, IsPlaceOf, IsSettled, IsStoreRun, IsUnsettled, IsWriterRun, gates_of, new_gates}
+use Rattle.rs_places.specs.Store.{IsEndOfRun, IsLineOf, IsPlaceOf, IsRunTo, IsSettled, IsStoreRun, IsUnsettled, IsWriterRun, gates_of, new_gates}
 use Rattle.rs_places_steps.specs.Turns.{Connections}
 use Rattle.rs_places.proofs.EachOnce.{each_once}
 use Rattle.rs_places_steps.proofs.Each.{each_length, each_with}
 use Rattle.rs_places_steps.proofs.Places.{places_length}
-use Rattle.rs_places_steps.proofs.Within.{all_behind, visits_send, visits_within}
-
-part_behind : {A : Type 0} (xs ys : List A) (y : A) → IsPart xs ys → IsPart xs (y ∷ ys)
-part_behind [] ys y p = tt
-part_behind (x ∷ xs) ys y p = inr p
+use Rattle.rs_places_steps.proofs.Within.{visits_send, visits_within}
 
 part_filter : {A : Type 0} (f : A → Bool) (xs ys : List A) → IsPart xs ys → IsPart (filter f xs) (filter f ys)
 part_filter f [] ys p = tt
@@ -120,9 +118,9 @@ done_extends limit kept (entry ∷ entries) (outcome ∷ outcomes) kept' are =
 
 -- ---- the writer, the lines and the places
 
-abbrev writer_run : (limit places version : ℕ) (w : Written) (first entries : List Entry) (ways : List Told) → IsWritten limit places first entries (kept_of w) ways → IsLegal limit (kept_of w) → AreOfPlaces places entries → version ≡ length w.published → length w.held ≤ 1
-    → IsWriterRun limit places first version
-writer_run limit places version w first entries ways written legal placed version_is few = record {
+abbrev writer_run : (most_held limit places version : ℕ) (w : Written) (first entries : List Entry) (ways : List Told) → IsWritten limit places first entries (kept_of w) ways → IsLegal limit (kept_of w) → AreOfPlaces places entries → version ≡ length w.published → length w.held ≤ most_held
+    → IsWriterRun most_held limit places first version
+writer_run most_held limit places version w first entries ways written legal placed version_is few = record {
   history = kept_of w;
   legal = legal;
   begins = done_extends limit first entries written.outcomes (kept_of w) written.done;
@@ -232,7 +230,7 @@ IsUnused line = (line.sent ++ line.ahead ≡ []) × (0 < line.place)
 
 lines_fresh : (places : ℕ) → AllByRecursion IsUnused (new_lines places)
 lines_fresh zero = tt
-lines_fresh (suc n) = all_behind IsUnused (new_lines n) (new_line (suc n)) (lines_fresh n) (refl, omega arith)
+lines_fresh (suc n) = all_push IsUnused (new_lines n) (new_line (suc n)) (lines_fresh n) (refl, omega arith)
 
 places_fresh : (known : List Entry) (turns : List Connections) (lines : List Line) → AllByRecursion IsUnused lines → AllByRecursion IsFresh (places_of turns (map (λ line. handed_on known line) lines))
 places_fresh known [] lines fresh = tt
@@ -286,15 +284,15 @@ ends_once {T} {E} turns ends connections turn told line limit places first gates
     subst Q (map_map (λ (end : Left). end.line) h ends) (each_once limit places first before (map h ends) (length-map turns connections ∙ (turns_count ∙ sym (new_lines_length places))) (subst P new served))
 
 -- a run of a store with a turn for each place
-pub store_run : {T E : Type 0} (turns : List T) (ends : List E) (connections : T → Connections) (turn : E → T) (told : E → List Entry) (line : E → Closed) (own limit places : ℕ) (first : List Entry) (turns_left : List T)
+pub store_run : {T E : Type 0} (turns : List T) (ends : List E) (connections : T → Connections) (turn : E → T) (told : E → List Entry) (line : E → Closed) (most_held limit places : ℕ) (first : List Entry) (turns_left : List T)
     (gates : List SharedValue) (w : Written) (received : Received) (cause : Cause) (ways : List Told) (version : ℕ) (changes : Option ℕ)
-    → own ≡ limit → AreOwn first → gates ≡ new_gates first places → length turns ≡ places
+    → AreOwn first → gates ≡ new_gates first places → length turns ≡ places
     → AllZip (IsPlaceServed limit) (places_of (map connections turns) gates) (map (λ e. left_at (connections (turn e)) (told e) (line e)) ends)
     → IsWritten limit places first received.entries (kept_of w) ways → IsLegal limit (kept_of w) → All (λ e. IsPrefix (told e) (kept_of w)) ends
     → AreTakenInOrder received.entries (map line ends) → MatchOption changes (IsUnsettled received.entries (map line ends)) (IsSettled places received.entries (map line ends))
-    → AreOfPlaces places received.entries → IsCause places (2 ^ 64 - 1) received cause → (HaveEnded places received.ends → AreTaken received.entries (map line ends)) → version ≡ length w.published → length w.held ≤ 1 → turns_left ≡ map turn ends
-    → IsStoreRun own places first (map connections turns) (map connections turns_left) version changes cause
-store_run {T} {E} turns ends connections turn told line own limit places first turns_left gates w received cause ways version changes same writers new turns_count served written legal known taken settled placed ended all_ended version_is few left_is =
+    → AreOfPlaces places received.entries → IsCause places (2 ^ 64 - 1) received cause → (HaveEnded places received.ends → AreTaken received.entries (map line ends)) → version ≡ length w.published → length w.held ≤ most_held → turns_left ≡ map turn ends
+    → IsRunTo most_held limit places first (map connections turns) (map connections turns_left) w version changes cause
+store_run {T} {E} turns ends connections turn told line most_held limit places first turns_left gates w received cause ways version changes writers new turns_count served written legal known taken settled placed ended all_ended version_is few left_is =
     let history = kept_of w in
     let entries = received.entries in
     let kept = written_part limit places first entries history ways written in
@@ -314,9 +312,8 @@ store_run {T} {E} turns ends connections turn told line own limit places first t
     let each = each_length (IsPlaceServed limit) (places_of before gates) left served in
     let S : List Closed → Type 0 = λ l. MatchOption changes (IsUnsettled entries l) (IsSettled places entries l) in
     let T : List Closed → Type 0 = λ l. IsEndOfRun entries l cause in
-    let R : ℕ → Type 0 = λ l. IsStoreRun l places first before (map connections turns_left) version changes cause in
-    subst R (sym same) (record {
-      writer = writer_run limit places version w first entries ways written legal placed version_is few;
+    let run : IsStoreRun most_held limit places first before (map connections turns_left) version changes cause = record {
+      writer = writer_run most_held limit places version w first entries ways written legal placed version_is few;
       left = left;
       each = each_with (IsPlaceServed limit) (IsPlaceOf limit history entries) IsFresh (IsKnown history entries) (λ place end one fresh k. place_of limit history first entries place end writers legal kept one fresh k)
           (places_of before (new_gates first places)) left (subst P new served) (places_fresh first before (new_lines places) (lines_fresh places)) both;
@@ -324,4 +321,5 @@ store_run {T} {E} turns ends connections turn told line own limit places first t
       turns = after;
       ended = subst T lines_left (end_of_run places received cause (map line ends) ended all_ended);
       settled = subst S lines_left settled;
-    })
+    } in
+    record { run = run; published = refl; held = refl }

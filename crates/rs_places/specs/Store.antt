@@ -14,6 +14,7 @@ use Rattle.rs_intake_queue.specs.declared.job.TheConstants.{MAX_CHANGES}
 use Rattle.rs_intake_queue.specs.Parts.{IsPart}
 use Rattle.rs_intake_queue.specs.QueueRule.{of_place}
 use Rattle.rs_session.specs.Gate.{Extends}
+use Rattle.rs_version.specs.Writer.{Written}
 use Rattle.rs_places.specs.Gates.{handed_on}
 use Rattle.rs_places_steps.specs.Places.{IsPlaceServed, Left, places_of}
 use Rattle.rs_places_steps.specs.Shared.{SharedValue}
@@ -72,16 +73,16 @@ IsEndOfRun taken lines AllEnded = AreTaken taken lines
 IsEndOfRun taken lines MostTaken = 2 ^ 64 ≤ length taken + MAX_CHANGES
 IsEndOfRun taken lines (QueueGone gone) = Unit {0}
 
--- The writer of a run over so many places, whose store began with this list, published so many entries.
-pub record IsWriterRun (limit places : ℕ) (first : List Entry) (version : ℕ) : Type 0 where
+-- The writer of a run over so many places, whose store began with this list, published so many entries. It holds at most so many.
+pub record IsWriterRun (most_held limit places : ℕ) (first : List Entry) (version : ℕ) : Type 0 where
   -- There is one legal history, the list that the writer keeps, which begins with the first list. So many entries of it were published,
-  -- from the first on: all, or all but the last, which is held then. It would be published before any other.
+  -- from the first on: all, or all but the last ones, which are held then. They would be published before any other.
   pub history : List Entry
   pub legal : IsLegal limit history
   pub begins : Extends history first
   pub published : List Entry
   pub held : List Entry
-  pub few : length held ≤ 1
+  pub few : length held ≤ most_held
   pub whole : history ≡ published ++ held
   pub entries : version ≡ length published
   -- The writer took these entries, and each has an outcome. By these the history came of the first list. All of it but the Sweeps are the
@@ -98,10 +99,10 @@ pub record IsWriterRun (limit places : ℕ) (first : List Entry) (version : ℕ)
 -- A store that began with this list was run over so many new places, each of them a client's line. Each place served its turn, from that
 -- before to that after; the writer published so many entries, and ended for this cause; and so many changes are settled, or it is known
 -- that not all were taken. Nothing is said of seats and of threads, of which there may be fewer.
-pub record IsStoreRun (limit places : ℕ) (first : List Entry) (before after : List Connections) (version : ℕ) (changes : Option ℕ)
+pub record IsStoreRun (most_held limit places : ℕ) (first : List Entry) (before after : List Connections) (version : ℕ) (changes : Option ℕ)
     (cause : Cause) : Type 0 where
   -- the history, and what the writer took and published
-  pub writer : IsWriterRun limit places first version
+  pub writer : IsWriterRun most_held limit places first version
   pub open writer use *
   -- of each place: its connections, what they saw, what they sent, and what became of that
   pub left : List Left
@@ -111,3 +112,10 @@ pub record IsStoreRun (limit places : ℕ) (first : List Entry) (before after : 
   pub ended : IsEndOfRun taken (map (λ end. end.line) left) cause
   -- all that the places sent was taken, once; no number is given only if another number was sent than taken
   pub settled : MatchOption changes (IsUnsettled taken (map (λ end. end.line) left)) (IsSettled places taken (map (λ end. end.line) left))
+
+-- The same of a run whose writer has published and holds this at its end.
+pub record IsRunTo (most_held limit places : ℕ) (first : List Entry) (before after : List Connections) (w : Written) (version : ℕ)
+    (changes : Option ℕ) (cause : Cause) : Type 0 where
+  pub run : IsStoreRun most_held limit places first before after version changes cause
+  pub published : run.writer.published ≡ w.published
+  pub held : run.writer.held ≡ w.held

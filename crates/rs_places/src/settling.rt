@@ -21,7 +21,7 @@ fn cover_all<N: LineName, T: Drop, S: StoreWriter<N>>(
 )
     ensures known { All (λ end. IsPrefix end.told (kept_of (S.written writer.old))) ends.now.items }
     ensures legal { IsLegal N.limit (kept_of (S.written writer.old)) }
-    ensures same { S.written writer.new ≡ S.written writer.old }
+    ensures same { (S.written writer.new ≡ S.written writer.old) × (S.ready writer.new ≡ S.ready writer.old) }
 {
     // For the proof: this call says that the kept list is legal, also if there are no ends.
     let told = writer.tell();
@@ -57,26 +57,27 @@ fn part_ends<N: LineName, T: Drop>(
     (lines, turns)
 }
 
-/// Settles a run once its writer and all its places have ended, for which there were so many threads, and gives what it leaves. Each place
-/// has the end of its line. `lines` and `turns` are empty and have the capacity for all, so this takes no memory.
+/// Settles a run once its writer and all its places have ended, for which there were so many threads, and gives what it leaves, and the
+/// writer. Each place has the end of its line. `lines` and `turns` are empty and have the capacity for all, so this takes no memory.
 pub(crate) fn settle_run<N: LineName, T: Drop, S: StoreWriter<N>>(
     ends: Vec<PlaceEnd<N, LineEnd<N>, T>>,
     threads: usize,
     ended: Ended<N, S>,
     lines: Vec<LineEnd<N>>,
     turns: Vec<T>,
-) -> StoreEnd<T>
+) -> (StoreEnd<T>, S)
     requires empty { (lines.items ≡ []) × (turns.items ≡ []) }
     requires capacity { (length ends.items ≤ vec_capacity lines) × (length ends.items ≤ vec_capacity turns) }
     requires once { EachOnce N.places (map (λ end. end.line) ends.items) }
-    ensures turns { result.turns.items ≡ map (λ end. end.turn) ends.items }
-    ensures version { result.version ≡ length (S.written ended.writer).published }
+    ensures writer { (S.written result.1 ≡ S.written ended.writer) × (S.ready result.1 ≡ S.ready ended.writer) }
+    ensures turns { result.0.turns.items ≡ map (λ end. end.turn) ends.items }
+    ensures version { result.0.version ≡ length (S.written ended.writer).published }
     ensures legal { IsLegal N.limit (kept_of (S.written ended.writer)) }
     ensures known { All (λ end. IsPrefix end.told (kept_of (S.written ended.writer))) ends.items }
     ensures order { AreTakenInOrder ended.received.entries (map (λ end. end.line) ends.items) }
     ensures ended { HaveEnded N.places ended.received.ends → AreTaken ended.received.entries (map (λ end. end.line) ends.items) }
-    ensures cause { result.cause ≡ ended.cause }
-    ensures settled { MatchOption result.changes (IsUnsettled ended.received.entries (map (λ end. end.line) ends.items))
+    ensures cause { result.0.cause ≡ ended.cause }
+    ensures settled { MatchOption result.0.changes (IsUnsettled ended.received.entries (map (λ end. end.line) ends.items))
         (IsSettled N.places ended.received.entries (map (λ end. end.line) ends.items)) }
 {
     let version = ended.writer.tell().version();
@@ -87,11 +88,13 @@ pub(crate) fn settle_run<N: LineName, T: Drop, S: StoreWriter<N>>(
         Ok(changes) => Some(changes),
         Err(_) => None,
     };
-    StoreEnd {
+    let Ended { writer, cause, .. } = ended;
+    let end = StoreEnd {
         turns,
         threads,
         version,
         changes,
-        cause: ended.cause,
-    }
+        cause,
+    };
+    (end, writer)
 }

@@ -180,16 +180,21 @@ impl<N: LineName, R: Wait + Copy> Gate for SharedGate<N, R> {
         MAX_CHANGES
     }
 
-    /// The line sends the changes at once, if nothing is ahead of it, so that the writer works on them while the client's thread goes on. The
+    /// While the writer's last jobs were all of this line, and fewer than two of its jobs are ahead.
+    fn runs_ahead(&self) -> bool {
+        self.line.runs_ahead()
+    }
+
+    /// The line sends the changes at once, behind what is ahead of it, so that the writer works on them while the client's thread goes on. The
     /// packet of each lies whole in the buffer, so its change is submitted, unless the session ends first. No clause says so. A change that
     /// is not submitted may be an entry, like any publication that was not acknowledged.
     fn expect(&mut self, changes: Vec<Operation>) {
         self.line.expect(&self.rt, changes);
     }
 
-    /// Whether anything is ahead of the line.
-    fn has_pending(&self) -> bool {
-        self.line.has_ahead()
+    /// How many are ahead of the line.
+    fn pending_count(&self) -> usize {
+        self.line.ahead_count()
     }
 
     /// Hands the change to the writer and waits for the receipt. The list of its token is known before `Ok` is answered. Beside what each
@@ -209,12 +214,6 @@ impl<N: LineName, R: Wait + Copy> Gate for SharedGate<N, R> {
         let answer = self.hand_over(operation);
         count_change(self.line.meter(), change, &answer);
         answer
-    }
-
-    /// Answers from the published version.
-    fn answer(&mut self, filter: &TopicFilter, now: u64) -> Result<Vec<Found>, AllocError> {
-        let version = self.read()?;
-        version.answer(filter, now)
     }
 
     /// Answers from the published version, if there are at most `room` messages.

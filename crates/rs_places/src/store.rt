@@ -4,7 +4,7 @@
 ghost use Rattle.std.specs.Prelude.{◌≡◌, IfOk, IfSome, [], All, List, length, map};
 ghost use Rattle.rs_message.specs.declared.entry.Entry.{Entry};
 ghost use Rattle.rs_places.specs.Gates.{handed_on};
-ghost use Rattle.rs_places.specs.Store.{IsStoreRun, gates_of};
+ghost use Rattle.rs_places.specs.Store.{IsRunTo, IsStoreRun, gates_of};
 ghost use Rattle.rs_places.specs.Writing.{HasWritten};
 ghost use Rattle.rs_version.specs.First.{AreOwn, first_of};
 ghost use Rattle.rs_version.specs.Writer.{kept_of};
@@ -127,7 +127,7 @@ impl<N: LineName, S: StoreWriter<N>> Promise<Ended<N, S>> for PutsJobs<N, S> {
     ghost use Rattle.rs_version.specs.Writer.{kept_of};
 
     ghost kept_by = { λ promise ended. HasWritten N.limit N.places S.most_held (kept_of (S.written promise.began.value)) (S.written ended.writer)
-        ended.received ended.ways.items ended.cause };
+        (S.ready ended.writer) ended.received ended.ways.items ended.cause };
 }
 
 /// Runs the writer's loop, and says what it promises as one fact.
@@ -138,8 +138,8 @@ fn put_jobs<N: LineName, S: StoreWriter<N>, W: Wait>(
 ) -> Ended<N, S>
     requires own { AreOwn (kept_of (S.written writer)) }
     requires ready { S.ready writer ≡ [] }
-    ensures { HasWritten N.limit N.places S.most_held (kept_of (S.written writer)) (S.written result.writer) result.received result.ways.items
-        result.cause }
+    ensures { HasWritten N.limit N.places S.most_held (kept_of (S.written writer)) (S.written result.writer) (S.ready result.writer)
+        result.received result.ways.items result.cause }
 {
     run_writer(rt, queue, writer)
 }
@@ -167,8 +167,8 @@ fn start_writer<
         move ||
             requires own { AreOwn (kept_of (S.written writer)) }
             requires ready { S.ready writer ≡ [] }
-            ensures { HasWritten N.limit N.places S.most_held (kept_of (S.written writer)) (S.written result.writer) result.received
-                result.ways.items result.cause }
+            ensures { HasWritten N.limit N.places S.most_held (kept_of (S.written writer)) (S.written result.writer) (S.ready result.writer)
+                result.received result.ways.items result.cause }
         { put_jobs(&rt, queue, writer) },
     )
     .ok()
@@ -208,10 +208,55 @@ where
     T::Out: Send + 'static,
     T::Time: Send + 'static,
     requires { queue.places ≡ length turns.items }
-    ensures { IfOk result (λ end. IsStoreRun blank.limit queue.places (first_of given.items) (map T.connections turns.items) (map T.connections end.turns.items)
+    ensures { IfOk result (λ end. IsStoreRun 1 blank.limit queue.places (first_of given.items) (map T.connections turns.items) (map T.connections end.turns.items)
         end.version end.changes end.cause) }
 {
     run_named::<Brand, T, H, W>(rt, alloc, blank, given, queue, turns, runner)
+}
+
+/// The run of a store whose writer this is, and whose seats know what it keeps: as [`run_store`] says, and the writer at its end.
+fn run_writer_of<
+    N: LineName + Send + Sync + 'static,
+    S: StoreWriter<N> + Send + 'static,
+    T: Turn + Send + Drop + 'static,
+    H: Threads + Wait + Copy + Send + Sync + 'static,
+    W: Watch<T::In> + Send + Sync + Drop + 'static,
+>(
+    rt: H,
+    alloc: Global,
+    writer: S,
+    seats: Vec<Seat<N>>,
+    queue: BlankQueue,
+    turns: Vec<FreeTurn<T>>,
+    runner: Runner<W>,
+) -> Result<(StoreEnd<T>, S), StoreFault>
+where
+    T::In: Send + 'static,
+    T::Out: Send + 'static,
+    T::Time: Send + 'static,
+    requires own { AreOwn (kept_of (S.written writer)) }
+    requires ready { S.ready writer ≡ [] }
+    requires seats { All (λ seat. seat ≡ kept_of (S.written writer)) seats.items }
+    requires queue { (queue.name ≡ N.queue) × (queue.places ≡ N.places) }
+    requires turns { queue.places ≡ length turns.items }
+    ensures run { IfOk result (λ end. IsRunTo S.most_held N.limit queue.places (kept_of (S.written writer)) (map T.connections turns.items)
+        (map T.connections end.0.turns.items) (S.written end.1) end.0.version end.0.changes end.0.cause) }
+    ensures idle { IfOk result (λ end. S.ready end.1 ≡ []) }
+{
+    let (intake, lines, queue) = queue.open::<N>()?;
+    let gates = open_gates(rt, alloc, intake, seats, lines)?;
+    // Before any thread starts, so that nothing is lost.
+    let lines = Vec::with_capacity(alloc, gates.len())?;
+    let left = Vec::with_capacity(alloc, gates.len())?;
+    let Some(writing) = start_writer(rt, queue, writer) else {
+        return Err(StoreFault::NoThread);
+    };
+    let served = run_places(rt, alloc, turns, gates, runner);
+    // It ends once each line is closed, or all are gone.
+    let ended = writing.join(&rt);
+    let served = served?;
+    let PlacesEnd { ends, threads } = served;
+    Ok(settle_run(ends, threads, ended, lines, left))
 }
 
 fn run_named<
@@ -235,22 +280,12 @@ where
     requires store { (blank.history ≡ N.history) × (blank.limit ≡ N.limit) }
     requires queue { (queue.name ≡ N.queue) × (queue.places ≡ N.places) }
     requires turns { queue.places ≡ length turns.items }
-    ensures { IfOk result (λ end. IsStoreRun blank.limit queue.places (first_of given.items) (map T.connections turns.items) (map T.connections end.turns.items)
+    ensures { IfOk result (λ end. IsStoreRun 1 blank.limit queue.places (first_of given.items) (map T.connections turns.items) (map T.connections end.turns.items)
         end.version end.changes end.cause) }
 {
     let (writer, seats) = blank.open_with::<N, H>(rt, given)?;
-    let (intake, lines, queue) = queue.open::<N>()?;
-    let gates = open_gates(rt, alloc, intake, seats, lines)?;
-    // Before any thread starts, so that nothing is lost.
-    let lines = Vec::with_capacity(alloc, gates.len())?;
-    let left = Vec::with_capacity(alloc, gates.len())?;
-    let Some(writing) = start_writer(rt, queue, writer) else {
-        return Err(StoreFault::NoThread);
-    };
-    let served = run_places(rt, alloc, turns, gates, runner);
-    // It ends once each line is closed, or all are gone.
-    let ended = writing.join(&rt);
-    let served = served?;
-    let PlacesEnd { ends, threads } = served;
-    Ok(settle_run(ends, threads, ended, lines, left))
+    match run_writer_of(rt, alloc, writer, seats, queue, turns, runner) {
+        Ok((end, _writer)) => Ok(end),
+        Err(fault) => Err(fault),
+    }
 }

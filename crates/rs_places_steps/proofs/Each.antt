@@ -31,13 +31,6 @@ each_of_whole {A} R f xs rest whole ends all is none =
     let P : List A → Type 0 = λ l. AllZip R (map f l) ends in
     subst P (sym (append-nil xs) ∙ (ap (λ l. xs ++ l) (sym none) ∙ is)) all
 
--- those of both lists were served
-pub each_both : {X Y : Type 0} (R : X → Y → Type 0) (xs more : List X) (ys rest : List Y) → AllZip R xs ys → AllZip R more rest → AllZip R (xs ++ more) (ys ++ rest)
-each_both R [] more [] rest all others = others
-each_both R [] more (e ∷ es) rest all others = absurd all
-each_both R (p ∷ ps) more [] rest all others = absurd all
-each_both R (p ∷ ps) more (e ∷ es) rest all others = (all.0, each_both R ps more es rest all.1 others)
-
 pub each_length : {X Y : Type 0} (R : X → Y → Type 0) (xs : List X) (ys : List Y) → AllZip R xs ys → length xs ≡ length ys
 each_length R [] [] each = refl
 each_length R [] (end ∷ ys) each = absurd each

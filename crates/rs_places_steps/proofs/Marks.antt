@@ -4,7 +4,7 @@ use Rattle.rs_session.specs.Stored.{MarkGrows, point_after}
 use Rattle.rs_session.specs.Points.{Point}
 use Rattle.rs_session.specs.Run.{Run, Exchange}
 use Rattle.rs_session.specs.State.{State}
-use Rattle.rs_session_laws.proofs.Keeping.{run_marks}
+use Rattle.rs_server.proofs.Keeping.{run_marks}
 
 run_front : (from to : Point State) (before after : List Exchange) → Run from (before ++ after) to → Run from before (point_after from before)
 run_front from to [] after run = refl

@@ -1,5 +1,4 @@
 -- A client on its way may cross threads, if its turn, its gate and the parts of its connections may.
-use denote.Builtin.{u64}
 use denote.RattleType.{RattleType}
 use denote.Param.Send.{IsSend, recorded_send, sendable, struct_send, view_send}
 use denote.Struct.Declared.{shape}
@@ -20,6 +19,7 @@ use Rattle.rs_version.specs.declared.history.StoreName as StoreName
 use Rattle.std.proofs.Crossing.{crosses}
 use Rattle.std.specs.declared.io.traits.Read as Read
 use Rattle.std.specs.declared.io.traits.Write as Write
+use Rattle.rs_version.proofs.Sent.{u64_send}
 use Rattle.rs_places_steps.specs.contracts.begun.Begun as Begun
 use Rattle.rs_places_steps.specs.contracts.end_cell.ClientEnd as ClientEnd
 use Rattle.rs_places_steps.specs.contracts.end_cell.Coming as Coming
@@ -38,9 +38,6 @@ use Rattle.rs_places_steps.specs.contracts.stages.Stage as Stage
 use Rattle.rs_places_steps.specs.contracts.task.Task as Task
 use Rattle.rs_places_steps.specs.declared.gates.LineGate as LineGate
 use Rattle.rs_places_steps.specs.declared.gates.StoreGate as StoreGate
-
-u64_send : IsSend u64
-u64_send = search sendable
 
 module _ (T G : RattleType) where
   begun_field : IsSend (Begun.the_field T G).row

@@ -7,10 +7,10 @@ use Rattle.rs_store.specs.History.{IsLegal, SerialsRise}
 use Rattle.rs_intake_queue.specs.declared.job.TheConstants.{MAX_CHANGES}
 use Rattle.rs_session.specs.Gate.{Mark, StandsAt}
 use Rattle.rs_session.specs.Run.{AreOfGate, Run, Exchange}
-use Rattle.rs_session_laws.proofs.Keeping.{run_lists, run_keeps}
-use Rattle.rs_session_laws.proofs.Replaying.{run_replays, replay_sends}
+use Rattle.rs_server.proofs.Keeping.{run_lists, run_keeps}
+use Rattle.rs_server.proofs.Replaying.{run_replays, replay_sends}
 use Rattle.rs_session.proofs.Runs.{of_gate_weaker}
-use Rattle.rs_session_laws.proofs.Sending.{run_sends}
+use Rattle.rs_server.proofs.Sending.{run_sends}
 use Rattle.rs_session.specs.Points.{Point, point_at}
 use Rattle.rs_session.specs.State.{State}
 use Rattle.rs_server.specs.Conversation.{AreLeft, IsConnection, Transfer, assigned_of, gate_view, start}

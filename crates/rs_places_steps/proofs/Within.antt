@@ -7,12 +7,13 @@ use Rattle.rs_store.proofs.Entries.{all_weaker}
 use Rattle.rs_version.specs.Receipts.{StandsAt}
 use Rattle.rs_version.proofs.Origins.{origins_differ}
 use Rattle.rs_packet.specs.declared.packet.Publish.{Publish}
+use Rattle.rs_session.proofs.Rows.{prefix_trans}
 use Rattle.rs_session.specs.Gate.{Extends, Mark, Sends}
 use Rattle.rs_session.specs.Points.{Given}
 use Rattle.rs_session.specs.Stored.{AreGrowing, IsStoredIn, StandsOnce, lists_of}
 use Rattle.rs_session.specs.Run.{Exchange}
 use Rattle.rs_session.specs.Sent.{AreSentBy}
-use Rattle.rs_session_laws.proofs.Sending.{both_sent, none_sent}
+use Rattle.rs_server.proofs.Sending.{both_sent, none_sent}
 use Rattle.rs_server.specs.Conversation.{AreLeft, assigned_of, start}
 use Rattle.rs_places_steps.specs.Shared.{SharedValue, operations_of}
 use Rattle.rs_places_steps.specs.Visits.{AreConnectionsServed, IsConnectionServed, Visit, next_number}
@@ -20,17 +21,9 @@ use Rattle.rs_places_steps.specs.Within.{ArePublications, AreWithin, IsWithin}
 
 -- ---- the lists of connections
 
-extends_more : (first then last : List Entry) → Extends then first → Extends last then → Extends last first
-extends_more first then last (xs, p) (ys, q) = (xs ++ ys, q ∙ (ap (λ l. l ++ ys) p ∙ append_assoc first xs ys))
-
 all_last : {A : Type 0} (P : A → Type 0) (xs : List A) (z : A) → AllByRecursion P (xs ++ z ∷ []) → P z
 all_last P [] z all = all.0
 all_last P (x ∷ xs) z all = all_last P xs z all.1
-
--- one more behind
-pub all_behind : {A : Type 0} (P : A → Type 0) (xs : List A) (x : A) → AllByRecursion P xs → P x → AllByRecursion P (xs ++ x ∷ [])
-all_behind P [] x all here = (here, tt)
-all_behind P (y ∷ ys) x all here = (all.0, all_behind P ys x all.1 here)
 
 -- all that grow are prefixes of the last
 growing_last : (lists : List (List Entry)) (last : List Entry) → AreGrowing (lists ++ last ∷ []) → AllByRecursion (λ seen. Extends last seen) lists
@@ -76,8 +69,8 @@ connection_within limit number list gate visit legal one extends =
     let seen = growing_last (gate.known ∷ lists_of served.exchanges) visit.gate.known served.lists in
     let L : List Exchange → Type 0 = λ ts. AllByRecursion (λ seen. Extends list seen) (lists_of ts) in
     record {
-      first = extends_more gate.known visit.gate.known list seen.0 extends;
-      lists = subst L (sym one.exchanges) (all_weaker (λ l. Extends visit.gate.known l) (λ l. Extends list l) (λ l h. extends_more l visit.gate.known list h extends) (lists_of served.exchanges) seen.1);
+      first = prefix_trans gate.known visit.gate.known list seen.0 extends;
+      lists = subst L (sym one.exchanges) (all_weaker (λ l. Extends visit.gate.known l) (λ l. Extends list l) (λ l h. prefix_trans l visit.gate.known list h extends) (lists_of served.exchanges) seen.1);
       stored = λ before exchange after o p answer whole is_open told.
           stored_more limit _ exchange p (exchange.to.seen ∷ lists_of after) visit.gate.known list legal extends (served.stored before exchange after o p answer (sym one.exchanges ∙ whole) is_open told);
     }
@@ -88,7 +81,7 @@ visits_within limit number list first [] last legal same extends = let P : Share
 visits_within limit number list first (visit ∷ visits) last legal (one, more) extends =
     let rest = visits_within limit (next_number number) list visit.gate visits last legal more extends in
     let seen = growing_last (first.known ∷ lists_of one.connection.exchanges) visit.gate.known one.connection.lists in
-    (extends_more first.known visit.gate.known list seen.0 rest.0, (connection_within limit number list first visit legal one rest.0, rest.1))
+    (prefix_trans first.known visit.gate.known list seen.0 rest.0, (connection_within limit number list first visit legal one rest.0, rest.1))
 
 -- ---- what the connections sent
 

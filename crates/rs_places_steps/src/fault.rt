@@ -1,4 +1,4 @@
-//! The fault of `run_store`.
+//! The fault of [`run_places`](crate::run_places), and of `run_store` of `rs_places` above it.
 
 use rs_version::OpenFault;
 use std::alloc::AllocError;

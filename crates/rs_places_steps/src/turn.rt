@@ -1,4 +1,4 @@
-//! What gives a place its connections.
+//! What gives a client its connections.
 
 ghost use Rattle.std.specs.Option.{option_map};
 ghost use Rattle.rs_server.specs.Counts.{failures_of, inner_of};
@@ -23,7 +23,7 @@ pub struct Connection<R, W, C> {
     pub clock: C,
 }
 
-/// Gives a place its connections, one after the other, and takes them back once they have ended.
+/// Gives a client its connections, one after the other, and takes them back once they have ended.
 ///
 /// The parts of a connection own what they need, since threads take them. A turn over given connections, as those of a
 /// test are, says which by its `connections`; one over sockets says nothing, and promises nothing.
@@ -42,7 +42,7 @@ pub trait Turn {
     /// What contracts see of its connections. Nothing, if the type does not say.
     ghost connections: { Self → Connections } = { λ _. none_given };
 
-    /// The next connection of the place. `None` if there are no more; then it is not asked again.
+    /// The client's next connection. `None` if there are no more; then it is not asked again.
     ///
     /// No connection is out: whoever served the one before has given it back ([`end`](Turn::end)), with what is owed for that.
     fn next(&mut self) -> Option<Connection<Self::In, Self::Out, Self::Time>>
@@ -109,7 +109,7 @@ impl<T: Turn> FreeTurn<T> {
     }
 }
 
-/// What is left of a place whose connections were served.
+/// What is left of a client whose connections were served. It is called by the place of its line.
 #[derive(Drop)]
 pub struct PlaceEnd<N: StoreName, L, T> {
     /// What is left of its line.
@@ -120,10 +120,10 @@ pub struct PlaceEnd<N: StoreName, L, T> {
     pub turn: T,
 }
 
-/// What is left of all places.
+/// What is left of all clients.
 #[derive(Drop)]
 pub struct PlacesEnd<N: StoreName, L, T> {
-    /// What is left of each place, in their order.
+    /// What is left of each client, in the order of their places.
     pub ends: Vec<PlaceEnd<N, L, T>>,
     /// How many threads, or lanes with threads, there were for them.
     pub threads: usize,

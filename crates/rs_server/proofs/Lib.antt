@@ -5,3 +5,7 @@ pub mod Conversations
 pub mod Inputs
 pub mod Planning
 pub mod Goings
+pub mod Limits
+pub mod Replaying
+pub mod Keeping
+pub mod Sending

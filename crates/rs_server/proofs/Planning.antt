@@ -1,18 +1,17 @@
 -- Lemmas on what is decoded before it is handled.
-use Rattle.std.proofs.Common.{◌≡◌, ◌<◌, ◌≤◌, ◌+◌, ◌-◌, ℕ, length-append, List, [], ◌∷◌, ◌++◌, length, take, get_or, refl, sym, subst, ap, ◌∙◌, append-nil, append_assoc, inl, inr, ◌⊎◌, Option, Some, None, arith}
+use Rattle.std.proofs.Common.{◌≡◌, ◌<◌, ◌≤◌, ◌+◌, ◌-◌, ℕ, length-append, List, [], ◌∷◌, ◌++◌, length, take, drop, get_or, take-append-drop, refl, sym, subst, ap, ◌∙◌, append-nil, append_assoc, inl, inr, ◌⊎◌, Option, Some, None, arith}
 use Rattle.std.proofs.lemmas.List.{map-append, take_more}
 use Rattle.std.proofs.lemmas.List.Elements.{All-nil, All-cons, All-append, All-take}
 use Rattle.std.proofs.Math.Seq.{take-append_seam, take-length}
 use Rattle.std.specs.List.{All}
 use Rattle.rs_packet.specs.declared.reply.Reply.{Reply}
-use Rattle.rs_message.specs.declared.entry.Entry.{Entry}
 use Rattle.rs_message.specs.declared.entry.Operation.{Operation}
 use Rattle.rs_session.specs.declared.phase.Input.{Input}
 use Rattle.rs_session.specs.declared.phase.Phase.{Phase}
 use Rattle.rs_session.specs.declared.phase.Phase.TheVariants as phase
 use Rattle.rs_session.specs.declared.phase.Step.TheVariants.{End}
 use Rattle.rs_session.specs.Pending.{AreChanges, HasChange, IsChange, LeavesPending}
-use Rattle.rs_session.specs.Gate.{Grows, Mark}
+use Rattle.rs_session.specs.Gate.{Mark}
 use Rattle.rs_session.specs.Points.{Given}
 use Rattle.rs_session.specs.Run.{Gives, GivesAll}
 use Rattle.rs_session.specs.State.{State, IsGiven, IsReplayed, step_of}
@@ -98,6 +97,11 @@ expected_more planned more [] h = tt
 expected_more [] more (operation ∷ operations) h = absurd h
 expected_more (given ∷ planned) more (operation ∷ operations) h = (h.0, expected_more planned more operations h.1)
 
+pub first_changes : (givens : List Given) (changes : List Operation) → AreChanges (take (length changes) givens) changes → AreChanges givens changes
+first_changes givens changes h =
+    let n : ℕ = length changes in
+    subst (λ (l : List Given). AreChanges l changes) (take-append-drop n givens) (expected_more (take n givens) (drop n givens) changes h)
+
 pub expected_planned : (p1 p2 : List Given) (h1 h2 : List ℕ) (c1 c2 : Option (ℕ → ℕ)) (changes : List Operation) → Plans p1 p2 h1 h2 c1 c2 → AreChanges p1 changes → AreChanges p2 changes
 expected_planned p1 p2 h1 h2 c1 c2 changes (more, e, i, m) h = subst (λ (l : List Given). AreChanges l changes) (sym e) (expected_more p1 more changes h)
 
@@ -110,12 +114,15 @@ one_change_more [] (c ∷ changes) given operation e h is = absurd h
 one_change_more (g ∷ givens) [] given operation e h is = absurd (none_long g givens e)
 one_change_more (g ∷ givens) (c ∷ changes) given operation e h is = (h.0, one_change_more givens changes given operation (omega (arith, e)) h.1 is)
 
-pub announced : (p1 p2 : List Given) (h1 h2 : List ℕ) (c1 c2 : Option (ℕ → ℕ)) (old new : List Operation) → Plans p1 p2 h1 h2 c1 c2 → AreChanges p2 new ⊎ (new ≡ old) → AreChanges p1 old → AreChanges p2 new
-announced p1 p2 h1 h2 c1 c2 old new p (inl are) h = are
-announced p1 p2 h1 h2 c1 c2 old new p (inr same) h = subst (AreChanges p2) (sym same) (expected_planned p1 p2 h1 h2 c1 c2 old p h)
+-- further changes behind these
+pub changes_behind : (givens : List Given) (first more : List Operation) → AreChanges givens first → AreChanges (drop (length first) givens) more → AreChanges givens (first ++ more)
+changes_behind givens [] more h next = next
+changes_behind [] (operation ∷ first) more h next = absurd h
+changes_behind (given ∷ givens) (operation ∷ first) more h next = (h.0, changes_behind givens first more h.1 next)
 
-pub stands_still : (before after : List Entry → Type 0) → Grows before after (λ seen list. list ≡ seen) → (seen : List Entry) → before seen → after seen
-stands_still before after grows seen s = let (list, stands, begins, same) = grows seen s in subst after same stands
+pub announced : (givens : List Given) (changes old new : List Operation) → AreChanges (drop (length old) givens) changes → (new ≡ old ++ changes) ⊎ (new ≡ old) → AreChanges givens old → AreChanges givens new
+announced givens changes old new next (inl more) h = subst (AreChanges givens) (sym more) (changes_behind givens old changes h next)
+announced givens changes old new next (inr same) h = subst (AreChanges givens) (sym same) h
 
 -- ---- a session that has ended stays so while its replies are given
 

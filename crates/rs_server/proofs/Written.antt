@@ -1,5 +1,5 @@
 -- Lemmas on what was written.
-use Rattle.std.proofs.Common.{◌≡◌, ℕ, ◌<◌, ◌-◌, ◌^◌, List, [], ◌∷◌, ◌++◌, length, take, drop, sym, subst, ap, ◌∙◌, append_assoc, append-nil, take-append-drop, Option, Some, None, Result, Ok, Err, OnOk, OnErr, arith}
+use Rattle.std.proofs.Common.{◌≡◌, ℕ, ◌-◌, List, [], ◌∷◌, ◌++◌, length, take, drop, sym, subst, ap, ◌∙◌, append_assoc, append-nil, take-append-drop, Option, Some, None, Result, Ok, Err, OnErr, true, false, is_ok}
 use Rattle.std.proofs.lemmas.List.{take_rest, flat_map_more}
 use Rattle.std.proofs.KnownBytes.{Appends-trans}
 use Rattle.std.specs.Io.KnownBytes.{Appends, Keeps}
@@ -40,24 +40,22 @@ longer a b replies reply (front, back, e, q) =
 cause_same : {T : Type 0} (r : Result T ServeFault) (a b c : ℕ) → b ≡ a → IsWriteCause r b c → IsWriteCause r a c
 cause_same r a b c e w = subst (λ (n : ℕ). IsWriteCause r n c) e w
 
--- one more reply was written, or was due behind a failure
+-- one more reply was written
 pub writes_next : {T : Type 0} {W : Type 0} (contents : W → Option (List ℕ)) (written : Result T ServeFault) (r : Result T ServeFault) (first : Option (List ℕ)) (old new : Counted W) (replies : List Reply) (reply : Reply) (before : ℕ)
-    → Writes written first (contents (inner_of old)) (all_reply_bytes replies) → IsWriteCause written before (failures_of old)
-    → OnOk written (Writes r (contents (inner_of old)) (contents (inner_of new)) (reply_bytes reply) × IsWriteCause r (failures_of old) (failures_of new))
-    → OnErr written ((r ≡ written) × (new ≡ old))
+    → Writes written first (contents (inner_of old)) (all_reply_bytes replies) → IsWriteCause written before (failures_of old) → is_ok written ≡ true
+    → Writes r (contents (inner_of old)) (contents (inner_of new)) (reply_bytes reply) → IsWriteCause r (failures_of old) (failures_of new)
     → Writes r first (contents (inner_of new)) (all_reply_bytes (replies ++ reply ∷ [])) × IsWriteCause r before (failures_of new)
-writes_next contents (Ok x) r first old new replies reply before p w h k =
-    (subst (Writes r first (contents (inner_of new))) (flat_map_more reply_bytes [] replies reply) (writes_after r first _ _ _ _ p h.0), cause_same r before _ _ w h.1)
-writes_next contents (Err Read) r first old new replies reply before p w h k = absurd w
-writes_next contents (Err Write) r first old new replies reply before p w h k =
-    rw (k.0, k.1) (longer first _ replies reply p, w)
-writes_next contents (Err NoMemory) r first old new replies reply before p w h k =
-    rw (k.0, k.1) (longer first _ replies reply p, w)
+writes_next contents (Ok x) r first old new replies reply before p w is h k =
+    (subst (Writes r first (contents (inner_of new))) (flat_map_more reply_bytes [] replies reply) (writes_after r first _ _ _ _ p h), cause_same r before _ _ w k)
+writes_next contents (Err f) r first old new replies reply before p w is h k = absurd (cc (is))
 
--- the writer has not failed if nothing failed
-pub can_rise_still : {T : Type 0} (written : Result T ServeFault) (before after : ℕ) → before < 2 ^ 64 - 1 → IsWriteCause written before after → OnOk written (after < 2 ^ 64 - 1)
-can_rise_still (Ok x) before after h e = omega arith
-can_rise_still (Err f) before after h e = tt
+-- once something failed, no reply more is written
+pub writes_none : {T : Type 0} (written : Result T ServeFault) (first last : Option (List ℕ)) (replies : List Reply) (reply : Reply) (before after : ℕ)
+    → Writes written first last (all_reply_bytes replies) → IsWriteCause written before after → is_ok written ≡ false → Writes written first last (all_reply_bytes (replies ++ reply ∷ []))
+writes_none (Ok x) first last replies reply before after p w is = absurd (cc (is))
+writes_none (Err Read) first last replies reply before after p w is = absurd w
+writes_none (Err Write) first last replies reply before after p w is = longer first last replies reply p
+writes_none (Err NoMemory) first last replies reply before after p w is = longer first last replies reply p
 
 -- all was written before the flush failed
 pub all_in_front : (a b c : Option (List ℕ)) (xs : List ℕ) → Appends a b xs → Keeps b c → AppendsFront a c xs

@@ -25,13 +25,8 @@ with_change (Err Open) r = record r { unknown = next_count r.unknown }
 with_change (Err Strange) r = record r { unknown = next_count r.unknown }
 with_change (Err Closed) r = record r { unknown = next_count r.unknown }
 
--- the counts after this answer to a filter: an error says that memory was refused
-abbrev pub with_filter : {A E : Type 0} → Result A E → Refusals → Refusals
-with_filter (Ok _) r = r
+-- the counts after this answer to a filter: none if there are too many messages, an error if memory was refused
+abbrev pub with_filter : {A E : Type 0} → Result (Option A) E → Refusals → Refusals
+with_filter (Ok (Some _)) r = r
+with_filter (Ok None) r = record r { filters_too_long = next_count r.filters_too_long }
 with_filter (Err _) r = record r { filters_no_memory = next_count r.filters_no_memory }
-
--- the same, if there may be no answer since there are too many messages
-abbrev pub with_filter_within : {A E : Type 0} → Result (Option A) E → Refusals → Refusals
-with_filter_within (Ok (Some _)) r = r
-with_filter_within (Ok None) r = record r { filters_too_long = next_count r.filters_too_long }
-with_filter_within (Err _) r = record r { filters_no_memory = next_count r.filters_no_memory }

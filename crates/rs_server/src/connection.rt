@@ -49,9 +49,10 @@ pub enum Served {
 ///
 /// Packets that are whole in its buffer are decoded before they are handled, up to as many as the gate takes at once
 /// ([`Gate::most_expected`]), as long as they are publications whose changes may be announced. The gate is told to expect half of these
-/// ([`Gate::expect`]) before the other half is decoded, and the others once the first are handled. All are handled one by one. It never
-/// reads to do so. Of this the contract says only how many inputs may be decoded and not handled. If the session ends before such a packet
-/// is handled, its time was asked all the same. For a gate that takes none, each packet is handled before the next one is decoded.
+/// ([`Gate::expect`]) before the other half is decoded. It is told of the others once the first are handled, or, if it runs ahead
+/// ([`Gate::runs_ahead`]), as soon as they are decoded. All are handled one by one. It never reads to do so. Of this the contract says only
+/// how many inputs may be decoded and not handled. If the session ends before such a packet is handled, its time was asked all the same.
+/// For a gate that takes none, each packet is handled before the next one is decoded.
 ///
 /// # Errors
 ///

@@ -3,10 +3,10 @@
 ghost use Rattle.std.specs.Prelude.{◌≡◌, false, IfOk};
 ghost use Rattle.std.specs.Option.{option_map};
 ghost use Rattle.rs_message.specs.Messages.{is_sweep};
-ghost use Rattle.rs_store.specs.History.{IsAnswer, IsAnswerWithin};
+ghost use Rattle.rs_store.specs.History.{IsAnswerWithin};
 ghost use Rattle.rs_session.specs.Gate.{Grows, SendsAtMost, Submits, TakesPending, Uses, entry_by};
 ghost use Rattle.rs_server.specs.Counts.{next_count};
-ghost use Rattle.rs_server.specs.Refusals.{gate_of, none_refused, refusals_of, with_change, with_filter, with_filter_within};
+ghost use Rattle.rs_server.specs.Refusals.{gate_of, none_refused, refusals_of, with_change, with_filter};
 
 use rs_message::{Found, Operation, SubmitFault};
 use rs_session::Gate;
@@ -57,11 +57,15 @@ impl Refusals {
         }
     }
 
-    /// Counts a filter for whose answer memory was refused.
-    fn filter_no_memory(&mut self)
-        ensures { self.new ≡ record self.old { filters_no_memory = next_count self.old.filters_no_memory } }
+    /// Counts the answer to a filter.
+    fn filter(&mut self, answer: &Result<Option<Vec<Found>>, AllocError>)
+        ensures { self.new ≡ with_filter answer.now self.old }
     {
-        self.filters_no_memory = self.filters_no_memory.saturating_add(1);
+        match answer {
+            Ok(Some(_)) => {}
+            Ok(None) => self.filters_too_long = self.filters_too_long.saturating_add(1),
+            Err(AllocError) => self.filters_no_memory = self.filters_no_memory.saturating_add(1),
+        }
     }
 }
 
@@ -116,12 +120,16 @@ impl<G: Gate> Gate for CountedGate<G> {
         self.inner.most_expected()
     }
 
+    fn runs_ahead(&self) -> bool {
+        self.inner.runs_ahead()
+    }
+
     fn expect(&mut self, changes: Vec<Operation>) {
         self.inner.expect(changes);
     }
 
-    fn has_pending(&self) -> bool {
-        self.inner.has_pending()
+    fn pending_count(&self) -> usize {
+        self.inner.pending_count()
     }
 
     /// Counts the answer, if it is a fault.
@@ -141,21 +149,6 @@ impl<G: Gate> Gate for CountedGate<G> {
         answer
     }
 
-    /// Counts the filter, if memory is refused.
-    fn answer(&mut self, filter: &TopicFilter, now: u64) -> Result<Vec<Found>, AllocError>
-        ensures list { Grows (G.stands (gate_of self.old)) (G.stands (gate_of self.new))
-            (λ seen list. IfOk result (λ found. IsAnswer list filter.now now found.items)) }
-        ensures mark { G.mark (gate_of self.new) ≡ G.mark (gate_of self.old) }
-        ensures pending { G.pending (gate_of self.new) ≡ G.pending (gate_of self.old) }
-        ensures counts { refusals_of self.new ≡ with_filter result (refusals_of self.old) }
-    {
-        let answer = self.inner.answer(filter, now);
-        if answer.is_err() {
-            self.refusals.filter_no_memory();
-        }
-        answer
-    }
-
     /// Counts the filter, if memory is refused or the answer has more messages than there is room for.
     fn answer_within(
         &mut self,
@@ -167,16 +160,10 @@ impl<G: Gate> Gate for CountedGate<G> {
             (λ seen list. IfOk result (λ answer. IsAnswerWithin room list filter.now now (option_map (λ found. found.items) answer))) }
         ensures mark { G.mark (gate_of self.new) ≡ G.mark (gate_of self.old) }
         ensures pending { G.pending (gate_of self.new) ≡ G.pending (gate_of self.old) }
-        ensures counts { refusals_of self.new ≡ with_filter_within result (refusals_of self.old) }
+        ensures counts { refusals_of self.new ≡ with_filter result (refusals_of self.old) }
     {
         let answer = self.inner.answer_within(filter, now, room);
-        match &answer {
-            Ok(Some(_)) => {}
-            Ok(None) => {
-                self.refusals.filters_too_long = self.refusals.filters_too_long.saturating_add(1);
-            }
-            Err(AllocError) => self.refusals.filter_no_memory(),
-        }
+        self.refusals.filter(&answer);
         answer
     }
 }

@@ -1,6 +1,6 @@
 //! What is decoded before it is handled.
 
-ghost use Rattle.std.specs.Prelude.{◌≡◌, ◌≤◌, ◌⊎◌, [], ◌∷◌, ◌++◌, true, false, List, Ok, Some, OnErr, OnOk, IfOk, IfErr, length, max};
+ghost use Rattle.std.specs.Prelude.{◌≡◌, ◌≤◌, ◌⊎◌, [], ◌∷◌, ◌++◌, true, false, List, Ok, Some, OnErr, OnOk, IfOk, IfErr, length, drop, max};
 ghost use Rattle.std.specs.List.{All};
 ghost use Rattle.rs_message.specs.declared.entry.Entry.{Entry};
 ghost use Rattle.rs_message.specs.declared.entry.Operation.{Operation};
@@ -24,12 +24,12 @@ use rs_session::{Gate, Incoming, Input, Session};
 use std::alloc::Global;
 use std::collections::VecDeque;
 
-/// Plans what comes next, unless the gate still waits for changes of what is planned. Nothing is read.
+/// Plans what comes next, unless the gate takes no more changes yet. Nothing is read.
 ///
 /// The first is the first whole input of what is buffered. While the last one is a publication that may be announced, in an open session,
-/// the next one follows: first up to half of what its gate takes at once, whose changes are announced if there are `least` of them, and
-/// then up to as many as it takes, which are decoded while the writer works on the others. These are announced once all before them are
-/// handled.
+/// the next one follows: first a batch, half of what its gate takes at once, whose changes are announced if there are `least` of them. A
+/// gate that runs ahead takes the changes of a further batch behind these. Then come inputs up to as many as the gate takes, which are
+/// decoded while the writer works on the others. They are announced once the gate takes more.
 pub(crate) fn plan<G: Gate, C: Clock>(
     alloc: Global,
     session: &mut Session<G>,
@@ -52,15 +52,52 @@ pub(crate) fn plan<G: Gate, C: Clock>(
     ensures pending { AreChanges planned.old.items (G.pending (gate_of session.old))
         → AreChanges planned.new.items (G.pending (gate_of session.new)) }
 {
-    if !planned.is_empty() && session.has_pending() {
+    let most = session.most_expected();
+    if !planned.is_empty() && !takes_more(session, most) {
         return Ok(());
     }
-    let most = session.most_expected();
     plan_first(alloc, buffered, planned, clock, most >= least)?;
-    look_ahead(alloc, buffered, planned, clock, batch(most));
-    announce(alloc, session, planned, least);
+    plan_batch(alloc, session, buffered, planned, clock, most, least);
+    // Behind the first batch, if the gate runs ahead.
+    plan_batch(alloc, session, buffered, planned, clock, most, least);
     look_ahead(alloc, buffered, planned, clock, most);
     Ok(())
+}
+
+/// Whether the gate, which takes `most` changes at once, takes more now: it has none, or no more than a batch and runs ahead.
+fn takes_more<G: Gate>(session: &Session<G>, most: usize) -> bool {
+    let pending = session.pending_count();
+    pending == 0 || (pending <= batch(most) && session.runs_ahead())
+}
+
+/// Plans the next batch and announces its changes, behind those that are pending. If none are, there have to be `least` of them. Nothing
+/// is done if the gate, which takes `most` changes at once, takes no more now.
+fn plan_batch<G: Gate, C: Clock>(
+    alloc: Global,
+    session: &mut Session<G>,
+    buffered: &mut BytesMut,
+    planned: &mut VecDeque<Incoming>,
+    clock: &mut C,
+    most: usize,
+    least: usize,
+)
+    ensures plans { Plans planned.old.items planned.new.items buffered.old.items buffered.new.items (C.moments clock.old)
+        (C.moments clock.new) }
+    ensures few { length planned.new.items ≤ max (length planned.old.items) most }
+    ensures only_last { AllButLastHaveChanges planned.old.items → AllButLastHaveChanges planned.new.items }
+    ensures state { state_of session.new ≡ state_of session.old }
+    ensures due { due_of session.new ≡ due_of session.old }
+    ensures list { (seen : List Entry) → G.stands (gate_of session.old) seen → G.stands (gate_of session.new) seen }
+    ensures mark { G.mark (gate_of session.new) ≡ G.mark (gate_of session.old) }
+    ensures pending { AreChanges planned.old.items (G.pending (gate_of session.old))
+        → AreChanges planned.new.items (G.pending (gate_of session.new)) }
+{
+    if !takes_more(session, most) {
+        return;
+    }
+    let through = session.pending_count().saturating_add(batch(most));
+    look_ahead(alloc, buffered, planned, clock, through.min(most));
+    announce(alloc, session, planned, least);
 }
 
 /// How many inputs are planned before their changes are announced, for a gate that takes `most` changes at once: half of them, but two if
@@ -169,7 +206,7 @@ fn may_go_on(planned: &VecDeque<Incoming>) -> bool
     last.has_change()
 }
 
-/// Announces the changes of what is planned, if there are `least` or more.
+/// Announces the changes of what is planned behind those that are pending. If none are pending, there have to be `least` of them.
 fn announce<G: Gate>(
     alloc: Global,
     session: &mut Session<G>,
@@ -180,28 +217,30 @@ fn announce<G: Gate>(
     ensures due { due_of session.new ≡ due_of session.old }
     ensures list { Grows (G.stands (gate_of session.old)) (G.stands (gate_of session.new)) (λ seen list. list ≡ seen) }
     ensures mark { G.mark (gate_of session.new) ≡ G.mark (gate_of session.old) }
-    ensures pending { AreChanges planned.now.items (G.pending (gate_of session.new))
-        ⊎ (G.pending (gate_of session.new) ≡ G.pending (gate_of session.old)) }
+    ensures pending { AreChanges planned.now.items (G.pending (gate_of session.old))
+        → AreChanges planned.now.items (G.pending (gate_of session.new)) }
 {
-    if planned.len() < least {
+    let pending = session.pending_count();
+    let least = if pending == 0 { least } else { 1 };
+    if planned.len() < pending.saturating_add(least) {
         return;
     }
-    let changes = changes_of(alloc, planned);
+    let changes = changes_of(alloc, planned, pending);
     if changes.len() < least {
         return;
     }
     session.expect(changes);
 }
 
-/// Copies of the changes of the first of what is planned, up to one that has none. If memory is refused there are fewer.
-fn changes_of(alloc: Global, planned: &VecDeque<Incoming>) -> Vec<Operation>
-    ensures changes { AreChanges planned.now.items result.items }
+/// Copies of the changes of what is planned behind the first `from`, up to one that has none. If memory is refused there are fewer.
+fn changes_of(alloc: Global, planned: &VecDeque<Incoming>, from: usize) -> Vec<Operation>
+    ensures changes { AreChanges (drop from planned.now.items) result.items }
     ensures none_sweeps { All (λ operation. is_sweep operation ≡ false) result.items }
 {
-    let Ok(mut changes) = Vec::with_capacity(alloc, planned.len()) else {
+    let Ok(mut changes) = Vec::with_capacity(alloc, planned.len().saturating_sub(from)) else {
         return Vec::new(alloc);
     };
-    'made: for i in 0..planned.len() {
+    'made: for i in from..planned.len() {
         let next = &planned[i];
         let Some(change) = next.copy_change() else {
             return changes;

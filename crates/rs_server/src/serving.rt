@@ -28,7 +28,8 @@ use std::collections::VecDeque;
 use std::io::{Read, Write};
 use std::sync::Wait;
 
-/// How many changes are announced at least, if what was read is handled at once: one alone goes as fast by its `submit`.
+/// How many changes are announced at least, if what was read is handled at once and none are pending: one alone goes as fast by its
+/// `submit`.
 const LEAST_TOGETHER: usize = 2;
 
 /// A connection while it is served: its session, and what was read of a packet that is not whole yet.

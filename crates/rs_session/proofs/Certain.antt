@@ -34,9 +34,6 @@ use Rattle.rs_session.proofs.Expecting.{IsNoPublish, not_broken, whole_is}
 pub replies : (r : Option Reply) → Replies r ≢ Closes QuotaExceeded
 replies r e = absurd (cc (e))
 
-other_code : (code : ReasonCode) → code ≢ QuotaExceeded → Closes code ≢ Closes QuotaExceeded
-other_code code other e = other (let same : code ≡ QuotaExceeded = cc (e) in same)
-
 -- ---- before the change is used
 
 no_topic_exceeds : (topic : Result (List ℕ) TopicFault) → topic_refusal topic ≢ Some QuotaExceeded

@@ -1,6 +1,6 @@
 //! The store as a session sees it.
 
-ghost use Rattle.std.specs.Prelude.{◌≡◌, ◌≢◌, ◌≤◌, ◌⊎◌, [], false, ℕ, List, IfOk, MatchBool};
+ghost use Rattle.std.specs.Prelude.{◌≡◌, ◌≢◌, ◌≤◌, ◌⊎◌, ◌++◌, [], false, ℕ, List, IfOk, MatchBool, length};
 ghost use Rattle.std.specs.List.{All};
 ghost use Rattle.std.specs.Option.{option_map};
 ghost use Rattle.rs_message.specs.Messages.{is_sweep};
@@ -36,20 +36,32 @@ pub trait Gate {
         0
     }
 
-    /// Says which changes come next, in this order. Each is still handed over by a `submit` of its own, unless the session ends
-    /// before. A gate may send them to the store at once. By default it does nothing.
+    /// Whether it is better told of further changes while some are pending. By default not.
+    fn runs_ahead(&self) -> bool {
+        false
+    }
+
+    /// Says which changes come next, behind those that are pending, in this order. Each is still handed over by a `submit` of its own,
+    /// unless the session ends before. A gate may send them to the store at once. By default it does nothing.
     fn expect(&mut self, changes: Vec<Operation>)
         requires { All (λ operation. is_sweep operation ≡ false) changes.items }
         ensures list { Grows (stands self.old) (stands self.new) (λ seen list. list ≡ seen) }
         ensures mark { mark self.new ≡ mark self.old }
-        ensures pending { (pending self.new ≡ changes.items) ⊎ (pending self.new ≡ []) ⊎ (pending self.new ≡ pending self.old) }
+        ensures pending { (pending self.new ≡ pending self.old ++ changes.items) ⊎ (pending self.new ≡ pending self.old) }
     {
         let _changes = changes;
     }
 
-    /// Whether some change was expected and is not submitted yet. It may have been sent.
+    /// How many changes were expected and are not submitted yet. They may have been sent.
+    fn pending_count(&self) -> usize
+        ensures { result ≡ length (pending self.now) };
+
+    /// Whether some change was expected and is not submitted yet.
     fn has_pending(&self) -> bool
-        ensures { MatchBool result (pending self.now ≢ []) (pending self.now ≡ []) };
+        ensures { MatchBool result (pending self.now ≢ []) (pending self.now ≡ []) }
+    {
+        self.pending_count() > 0
+    }
 
     /// Hands a Set or a Clear to the store. At `Ok` the list has it as an entry of its own. The faults say what stands
     /// otherwise; the list may have grown by entries of others. Whatever is answered, no other change than this one
@@ -70,7 +82,15 @@ pub trait Gate {
         ensures list { Grows (stands self.old) (stands self.new)
             (λ seen list. IfOk result (λ found. IsAnswer list filter.now now found.items)) }
         ensures mark { mark self.new ≡ mark self.old }
-        ensures pending { pending self.new ≡ pending self.old };
+        ensures pending { pending self.new ≡ pending self.old }
+    {
+        match self.answer_within(filter, now, usize::MAX) {
+            Ok(Some(found)) => Ok(found),
+            // Never: no list has more items than that.
+            Ok(None) => Err(AllocError),
+            Err(error) => Err(error),
+        }
+    }
 
     /// The same answer if it has at most `room` messages, else `None`. A gate gives up at the first message beyond the room,
     /// so that an answer that nobody can take costs little.

@@ -6,7 +6,7 @@
 //!
 //! The contracts promise: each input takes one row of the table of the session (`on_input`), over every gate; no other
 //! change than that of its PUBLISH is handed to the gate; what waits is sent as the window gives it (`next_reply`). What holds
-//! along a run of inputs is promised by `rs_session_laws`.
+//! along a run of inputs is promised by `rs_server`.
 #![tactic(auto)]
 
 mod ahead;

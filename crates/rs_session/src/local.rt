@@ -4,7 +4,7 @@ ghost use Rattle.std.specs.Prelude.{◌≡◌, ◌↔◌, [], false, List, IfOk,
 ghost use Rattle.std.specs.Option.{option_map};
 ghost use Rattle.rs_message.specs.Messages.{is_sweep};
 ghost use Rattle.rs_store.specs.Contents.{IsAdded, empty};
-ghost use Rattle.rs_store.specs.History.{IsAnswer, IsAnswerWithin, Stands};
+ghost use Rattle.rs_store.specs.History.{IsAnswerWithin, Stands};
 ghost use Rattle.rs_session.specs.Gate.{Grows, SendsAtMost, Submits, Uses, entry_by};
 ghost use Rattle.rs_session.specs.Local.{catalogue_of, local_mark, next_entry, IsFull, IsLeft};
 
@@ -52,8 +52,8 @@ impl<C: Catalogue> Gate for LocalGate<C> {
     ghost mark = { λ gate. local_mark (C.content (catalogue_of gate)) };
 
     /// It sends nothing ahead.
-    fn has_pending(&self) -> bool {
-        false
+    fn pending_count(&self) -> usize {
+        0
     }
 
     /// `Full` if no serial is left or the store has no space, `NoMemory` if memory is refused. A Set for which a Sweep makes space is
@@ -84,16 +84,6 @@ impl<C: Catalogue> Gate for LocalGate<C> {
             Err(Refusal::Stale) => Err(SubmitFault::Full),
             Err(Refusal::NoMemory) => Err(SubmitFault::NoMemory),
         }
-    }
-
-    /// Refused only if memory is. The store stays as it is.
-    fn answer(&mut self, filter: &TopicFilter, now: u64) -> Result<Vec<Found>, AllocError>
-        ensures list { Grows (Stands (C.content (catalogue_of self.old))) (Stands (C.content (catalogue_of self.new)))
-            (λ seen list. IfOk result (λ found. IsAnswer list filter.now now found.items)) }
-        ensures mark { local_mark (C.content (catalogue_of self.new)) ≡ local_mark (C.content (catalogue_of self.old)) }
-        ensures same { C.content (catalogue_of self.new) ≡ C.content (catalogue_of self.old) }
-    {
-        self.catalogue.catalogue().answer(filter, now)
     }
 
     /// Refused only if memory is. The store stays as it is.

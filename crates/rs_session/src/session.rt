@@ -2,7 +2,7 @@
 
 mod connect;
 
-ghost use Rattle.std.specs.Prelude.{◌≡◌, ◌≢◌, ◌<◌, ◌≤◌, ◌⊎◌, ℕ, List, [], false, Some, None, IfSome, MatchBool, length};
+ghost use Rattle.std.specs.Prelude.{◌≡◌, ◌≢◌, ◌<◌, ◌≤◌, ◌⊎◌, ◌++◌, ℕ, List, [], false, Some, None, IfSome, MatchBool, length};
 ghost use Rattle.std.specs.List.{All};
 ghost use Rattle.rs_message.specs.declared.entry.Entry.{Entry};
 ghost use Rattle.rs_packet.specs.declared.packet.Packet.{Packet};
@@ -152,6 +152,18 @@ impl<G: Gate> Session<G> {
         0
     }
 
+    /// Whether the gate is better told of further changes while some are pending ([`Gate::runs_ahead`]).
+    pub fn runs_ahead(&self) -> bool {
+        self.gate.runs_ahead()
+    }
+
+    /// How many changes were expected and are not submitted yet ([`Gate::pending_count`]).
+    pub fn pending_count(&self) -> usize
+        ensures { result ≡ length (G.pending (gate_of self.now)) }
+    {
+        self.gate.pending_count()
+    }
+
     /// Whether some change was expected and is not submitted yet ([`Gate::has_pending`]).
     pub fn has_pending(&self) -> bool
         ensures { MatchBool result (G.pending (gate_of self.now) ≢ []) (G.pending (gate_of self.now) ≡ []) }
@@ -159,15 +171,15 @@ impl<G: Gate> Session<G> {
         self.gate.has_pending()
     }
 
-    /// Tells the gate which changes come next ([`Gate::expect`]), if the session is open: those of the inputs that it will be given, in
-    /// their order. None is a Sweep.
+    /// Tells the gate which changes come next behind those that are pending ([`Gate::expect`]), if the session is open: those of the
+    /// inputs that it will be given, in their order. None is a Sweep.
     pub fn expect(&mut self, changes: Vec<Operation>)
         requires { All (λ operation. is_sweep operation ≡ false) changes.items }
         ensures state { state_of self.new ≡ state_of self.old }
         ensures due { due_of self.new ≡ due_of self.old }
         ensures list { Grows (G.stands (gate_of self.old)) (G.stands (gate_of self.new)) (λ seen list. list ≡ seen) }
         ensures mark { G.mark (gate_of self.new) ≡ G.mark (gate_of self.old) }
-        ensures pending { (G.pending (gate_of self.new) ≡ changes.items) ⊎ (G.pending (gate_of self.new) ≡ [])
+        ensures pending { (G.pending (gate_of self.new) ≡ G.pending (gate_of self.old) ++ changes.items)
             ⊎ (G.pending (gate_of self.new) ≡ G.pending (gate_of self.old)) }
     {
         if self.is_open() {

@@ -220,7 +220,7 @@ impl Server {
         rt: H,
     ) -> Result<Summary, ListenFault>
         ensures run { IfOk result (λ summary. (before : List Connections) × (after : List Connections) × (version : ℕ) × (cause : Cause)
-            × IsStoreRun self.blank.limit summary.clients [] before after version summary.changes cause) }
+            × IsStoreRun 1 self.blank.limit summary.clients [] before after version summary.changes cause) }
         ensures alone { IfOk result (λ summary. self.clients ≤ self.places → summary.clients ≡ self.places) }
         ensures more { IfOk result (λ summary. self.places < self.clients
             → (self.places < summary.clients) × (summary.clients ≤ self.clients)) }
@@ -316,7 +316,7 @@ fn serve<H: Clock + Log + Threads + Wait + Copy + Send + Sync + 'static>(
 ) -> Result<StoreEnd<ListenTurn<H>>, ListenFault>
     requires { queue.places ≡ length turns.items }
     ensures { IfOk result (λ end. (before : List Connections) × (after : List Connections)
-        × IsStoreRun blank.limit queue.places [] before after end.version end.changes end.cause) }
+        × IsStoreRun 1 blank.limit queue.places [] before after end.version end.changes end.cause) }
 {
     let end = run_store(rt, alloc, blank, Vec::new(alloc), queue, turns, runner);
     end_telling(&rt, telling);

@@ -60,7 +60,8 @@ fn millis(time: Duration) -> u64 {
 }
 
 impl<H: Clock + Wait + Copy> SocketWatch<H> {
-    /// No client is watched yet. `clients` is how many there are, in so many lanes, of which there has to be one. A connection is idle for too long after `idle`.
+    /// No client is watched yet. `clients` is how many there are, in so many lanes, of which there has to be one. A connection is idle for too long
+    /// after `idle`.
     ///
     /// # Errors
     ///
@@ -186,7 +187,7 @@ impl<H: Clock + Wait + Copy> SocketWatch<H> {
         }
     }
 
-    /// What a number tells.
+    /// What has happened, by the number under which its descriptor is watched.
     fn event(&self, number: u64) -> Event {
         if number == STOP {
             return Event::Stop;

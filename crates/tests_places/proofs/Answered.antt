@@ -72,8 +72,8 @@ places_answered limit history entries (connections ∷ turns) (gate ∷ gates) [
 places_answered limit history entries (connections ∷ turns) (gate ∷ gates) (end ∷ left) same known each =
     (place_answered limit history entries (record { connections = connections; gate = gate }) end known.0 each.0, places_answered limit history entries turns gates left (omega (arith, same)) known.1 each.1)
 
-pub run_answered : (limit places : ℕ) (begun : List Entry) (before after : List Connections) (version : ℕ) (changes : Option ℕ) (cause : Cause) → length before ≡ places → AllByRecursion (λ connections. is_some connections.waiting ≡ true) before → IsStoreRun limit places begun before after version changes cause → AreAnswered limit before after version
-run_answered limit places begun before after version changes cause count known run =
+pub run_answered : (most_held limit places : ℕ) (begun : List Entry) (before after : List Connections) (version : ℕ) (changes : Option ℕ) (cause : Cause) → length before ≡ places → AllByRecursion (λ connections. is_some connections.waiting ≡ true) before → IsStoreRun most_held limit places begun before after version changes cause → AreAnswered limit before after version
+run_answered most_held limit places begun before after version changes cause count known run =
     let P : List Connections → Type 0 = λ l. ArePlacesAnswered run.history before l in
     record {
       history = run.history;

@@ -2,12 +2,12 @@
 
 mod shared;
 
-use kit_test::{blank_store, set};
+use kit_test::{MapCatalogue, blank_store, set};
 use rs_intake::blank_queue;
 use rs_message::{Found, LineCount, PlaceCount};
 use rs_program_pipe::OwnGate;
 use rs_session::{Gate, LocalGate};
-use rs_store::{Catalogue, MapCatalogue, TopicLimit};
+use rs_store::{Catalogue, TopicLimit};
 use rs_topic::TopicFilter;
 use rs_tree::TreeCatalogue;
 use shared::check_shared_gates;

@@ -1,5 +1,6 @@
 //! Lines, a writer and seats over threads, and each refusal.
 
+mod ahead;
 mod fullness;
 mod log;
 mod many;

@@ -27,8 +27,8 @@ impl Gate for Recording {
 
     ghost mark = { λ _. record { place = 1; serial = 0; sent = None } };
 
-    fn has_pending(&self) -> bool {
-        false
+    fn pending_count(&self) -> usize {
+        0
     }
 
     fn submit(&mut self, operation: Operation) -> Result<(), SubmitFault> {
@@ -39,10 +39,6 @@ impl Gate for Recording {
             Some(fault) => Err(fault),
             None => Ok(()),
         }
-    }
-
-    fn answer(&mut self, _filter: &TopicFilter, _now: u64) -> Result<Vec<Found>, AllocError> {
-        Err(AllocError)
     }
 
     fn answer_within(

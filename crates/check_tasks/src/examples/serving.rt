@@ -4,9 +4,10 @@ use crate::examples::example::{Connection, Example, Stored};
 use crate::examples::pieces::Pieces;
 use crate::examples::problem::{Part, Problem};
 use crate::examples::replies::Replies;
+use kit_test::MapCatalogue;
 use rs_server::{ConnectionId, Counted, Moments, ServeFault, Served, serve};
 use rs_session::LocalGate;
-use rs_store::{Catalogue, MapCatalogue};
+use rs_store::Catalogue;
 use std::alloc::Global;
 use std::sync::Wait;
 

@@ -40,7 +40,7 @@ struct Row {
 }
 
 /// So many Sets. `None` if memory is refused.
-fn changes_of(alloc: Global, count: u64) -> Option<Vec<Operation>>
+pub(crate) fn changes_of(alloc: Global, count: u64) -> Option<Vec<Operation>>
     ensures { IfSome result (λ changes. All (λ o. is_sweep o ≡ false) changes.items) }
 {
     let mut changes = Vec::new(alloc);
@@ -59,7 +59,7 @@ pub(crate) fn announce<N: LineName, R: Wait>(
 ) -> Option<()> {
     for line in lines.iter_mut() {
         line.expect(rt, changes_of(alloc, changes)?);
-        if !line.has_ahead() {
+        if line.ahead_count() == 0 {
             return None;
         }
     }

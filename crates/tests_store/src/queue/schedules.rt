@@ -3,8 +3,9 @@
 use super::log::{Log, Ran, Reading, totals_of};
 use super::places::{Setup, Writing, run};
 use super::script::Script;
+use kit_test::MapCatalogue;
 use rs_message::{Entry, Found};
-use rs_store::{CalmCatalogue, Catalogue, MapCatalogue, TopicLimit};
+use rs_store::{CalmCatalogue, Catalogue, TopicLimit};
 use rs_topic::TopicFilter;
 use std::alloc::Global;
 use std::test::Fail;

@@ -10,9 +10,9 @@ use super::joined::{
 };
 use super::lengths::check_lengths;
 use super::wide::{check_grown, check_swept_grown};
-use kit_test::{clear, origin, set_at};
+use kit_test::{MapCatalogue, clear, origin, set_at};
 use rs_message::{Entry, Found, Operation};
-use rs_store::{CalmCatalogue, Catalogue, MapCatalogue, Refusal, TopicLimit};
+use rs_store::{CalmCatalogue, Catalogue, Refusal, TopicLimit};
 use rs_topic::TopicFilter;
 use rs_tree::TreeCatalogue;
 use std::alloc::{AllocError, Global};

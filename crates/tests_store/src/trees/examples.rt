@@ -3,9 +3,9 @@
 ghost use Rattle.std.specs.Prelude.{◌≡◌, false, IfSome};
 ghost use Rattle.rs_message.specs.Messages.{is_sweep};
 
-use kit_test::{clear, origin, set_at};
+use kit_test::{MapCatalogue, clear, origin, set_at};
 use rs_message::{Entry, Found, MAX_LINES, Operation, Origin};
-use rs_store::{CalmCatalogue, Catalogue, MapCatalogue, Messages, Refusal, TopicLimit};
+use rs_store::{CalmCatalogue, Catalogue, Messages, Refusal, TopicLimit};
 use rs_topic::TopicFilter;
 use rs_tree::TreeCatalogue;
 use std::alloc::{AllocError, Global};

@@ -3,7 +3,8 @@
 ghost use Rattle.std.specs.Prelude.{◌≤◌};
 
 use super::alike::{Case, LATE, check_all_alike, check_beside, check_case, copy_both, put_both};
-use rs_store::{CalmCatalogue, Catalogue, MapCatalogue};
+use kit_test::MapCatalogue;
+use rs_store::{CalmCatalogue, Catalogue};
 use rs_tree::TreeCatalogue;
 use std::alloc::Global;
 use std::process::Abort;

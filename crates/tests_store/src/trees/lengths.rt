@@ -1,7 +1,8 @@
 //! Levels of about as many bytes as a node of the tree has room for.
 
 use super::alike::{Case, check_all_alike, check_answers_alike, check_case, put_both};
-use rs_store::{CalmCatalogue, Catalogue, MapCatalogue};
+use kit_test::MapCatalogue;
+use rs_store::{CalmCatalogue, Catalogue};
 use rs_topic::TopicFilter;
 use rs_tree::TreeCatalogue;
 use std::alloc::Global;

@@ -2,9 +2,9 @@
 
 use super::alike::{Draw, check_filter_alike, name_of};
 use super::examples::take;
-use kit_test::{clear, origin, set_at};
+use kit_test::{MapCatalogue, clear, origin, set_at};
 use rs_message::{Entry, Operation, Origin};
-use rs_store::{Catalogue, MapCatalogue, TopicLimit};
+use rs_store::{Catalogue, TopicLimit};
 use rs_tree::TreeCatalogue;
 use std::alloc::Global;
 use std::process::Abort;

@@ -1,7 +1,8 @@
 //! Many levels side by side, so that chunks are divided, and copies that never change.
 
 use super::alike::{Case, LATE, check_beside, check_case, copy_both, put, put_both};
-use rs_store::{CalmCatalogue, Catalogue, MapCatalogue, TopicLimit};
+use kit_test::MapCatalogue;
+use rs_store::{CalmCatalogue, Catalogue, TopicLimit};
 use rs_tree::TreeCatalogue;
 use std::alloc::Global;
 use std::process::Abort;

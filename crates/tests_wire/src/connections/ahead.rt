@@ -2,11 +2,11 @@
 
 use super::expecting::{Announced, Expecting};
 use super::steps::{WAYS, Way, serve_by};
-use kit_test::{CONNACK, CONNECT, REFUSING_GATE, Refusing, is_concat};
+use kit_test::{CONNACK, CONNECT, MapCatalogue, REFUSING_GATE, Refusing, is_concat};
 use rs_message::SubmitFault;
 use rs_server::{Clock, ConnectionId, Counted, Moments, ServeFault, Served};
 use rs_session::{Gate, LocalGate};
-use rs_store::{MapCatalogue, TopicLimit};
+use rs_store::TopicLimit;
 use std::alloc::{AllocError, Global};
 use std::io;
 use std::io::Read;
@@ -179,9 +179,10 @@ fn told<H: Wait>(
     alloc: Global,
     sent: Cut,
     most: usize,
+    runs_ahead: bool,
     way: Way,
 ) -> Result<(Outcome, Expecting<LocalGate<MapCatalogue>>), Fail> {
-    let gate = Expecting::new(alloc, local(alloc)?, most);
+    let gate = Expecting::new(alloc, local(alloc)?, most, runs_ahead);
     serve_over(rt, alloc, sent, gate, way)
 }
 
@@ -191,14 +192,15 @@ fn is_met_by<H: Wait>(
     alloc: Global,
     sent: Cut,
     most: usize,
+    runs_ahead: bool,
     wanted: &Outcome,
     way: Way,
 ) -> Result<bool, Fail> {
-    let (outcome, gate) = told(rt, alloc, sent, most, way)?;
+    let (outcome, gate) = told(rt, alloc, sent, most, runs_ahead, way)?;
     Ok(is_same(&outcome, wanted) && gate.is_met && gate.next.is_empty())
 }
 
-/// The same in whatever way it is served.
+/// The same in whatever way it is served, and whether the gate runs ahead or not.
 fn is_met<H: Wait>(
     rt: &H,
     alloc: Global,
@@ -207,8 +209,10 @@ fn is_met<H: Wait>(
     wanted: &Outcome,
 ) -> Result<bool, Fail> {
     for way in WAYS {
-        if !is_met_by(rt, alloc, sent, most, wanted, *way)? {
-            return Ok(false);
+        for runs_ahead in [false, true] {
+            if !is_met_by(rt, alloc, sent, most, runs_ahead, wanted, *way)? {
+                return Ok(false);
+            }
         }
     }
     Ok(true)
@@ -250,7 +254,7 @@ fn look_ahead_changes_no_end(rt: HostRuntime) -> Result<(), Fail> {
 fn times_stay_in_order(rt: HostRuntime) -> Result<(), Fail> {
     for most in MOSTS {
         for way in WAYS {
-            let (outcome, _gate) = told(&rt, rt.alloc(), cut_at(EXPIRING, 0), *most, *way)?;
+            let (outcome, _gate) = told(&rt, rt.alloc(), cut_at(EXPIRING, 0), *most, true, *way)?;
             assert!(rt;
                 is_concat(&outcome.written, &[CONNACK, EXPIRED]),
                 "{most} {way:?}"
@@ -270,12 +274,12 @@ fn bursts_are_answered_alike(rt: HostRuntime) -> Result<(), Fail> {
         assert!(rt; wanted.served == Ok(Served::EndOfInput));
         for most in MOSTS {
             assert!(rt;
-                is_met_by(&rt, rt.alloc(), sent, *most, &wanted, Way::AtOnce)?,
+                is_met_by(&rt, rt.alloc(), sent, *most, false, &wanted, Way::AtOnce)?,
                 "{most} at {at}"
             );
         }
         assert!(rt;
-            is_met_by(&rt, rt.alloc(), sent, 64, &wanted, Way::InSteps)?,
+            is_met_by(&rt, rt.alloc(), sent, 64, true, &wanted, Way::InSteps)?,
             "{at}"
         );
     }
@@ -339,15 +343,37 @@ const ANNOUNCED_IN_STEPS: &[Announcing] = &[
     (64, 40, 0, 16, &[(0, 32), (32, 8)]),
 ];
 
+/// A gate that runs ahead is told of the next batch before the first is submitted, and of another once no more than one is pending.
+const ANNOUNCED_AHEAD: &[Announcing] = &[
+    (0, 9, 9, 0, &[]),
+    (1, 9, 9, 0, &[]),
+    (2, 4, 3, 0, &[(0, 2), (1, 1), (2, 1), (4, 2), (5, 1)]),
+    (3, 4, 0, 0, &[(0, 2), (0, 1), (1, 1)]),
+    (5, 9, 0, 0, &[(0, 2), (0, 2), (2, 2), (4, 2), (6, 1)]),
+    (64, 1, 1, 0, &[]),
+    (64, 31, 0, 0, &[(0, 31)]),
+    (64, 33, 2, 0, &[(0, 32), (0, 1), (33, 2)]),
+    (64, 100, 0, 0, &[(0, 32), (0, 32), (32, 32), (64, 4)]),
+    (64, 40, 40, 0, &[(0, 32), (0, 8), (40, 32), (40, 8)]),
+    (
+        64,
+        100,
+        0,
+        16 + 70,
+        &[(0, 10), (10, 32), (10, 32), (42, 26)],
+    ),
+];
+
 fn announces<H: Wait>(
     rt: &H,
     alloc: Global,
     announcing: &Announcing,
+    runs_ahead: bool,
     way: Way,
 ) -> Result<bool, Fail> {
     let (most, first, second, at, wanted) = announcing;
     let bytes = two_runs(alloc, *first, *second)?;
-    let (_, gate) = told(rt, alloc, cut_at(&bytes, *at), *most, way)?;
+    let (_, gate) = told(rt, alloc, cut_at(&bytes, *at), *most, runs_ahead, way)?;
     Ok(gate.is_met && gate.announced.as_slice() == *wanted)
 }
 
@@ -356,7 +382,19 @@ fn half_is_announced_and_then_the_next_half(rt: HostRuntime) -> Result<(), Fail>
     for announcing in ANNOUNCED {
         let (most, first, second, at, _) = announcing;
         assert!(rt;
-            announces(&rt, rt.alloc(), announcing, Way::AtOnce)?,
+            announces(&rt, rt.alloc(), announcing, false, Way::AtOnce)?,
+            "{most} {first} {second} {at}"
+        );
+    }
+    Ok(())
+}
+
+#[test]
+fn a_batch_is_announced_behind_another(rt: HostRuntime) -> Result<(), Fail> {
+    for announcing in ANNOUNCED_AHEAD {
+        let (most, first, second, at, _) = announcing;
+        assert!(rt;
+            announces(&rt, rt.alloc(), announcing, true, Way::AtOnce)?,
             "{most} {first} {second} {at}"
         );
     }
@@ -368,7 +406,7 @@ fn one_change_is_announced_when_it_is_read(rt: HostRuntime) -> Result<(), Fail> 
     for announcing in ANNOUNCED_IN_STEPS {
         let (most, first, second, at, _) = announcing;
         assert!(rt;
-            announces(&rt, rt.alloc(), announcing, Way::InSteps)?,
+            announces(&rt, rt.alloc(), announcing, false, Way::InSteps)?,
             "{most} {first} {second} {at}"
         );
     }
@@ -376,26 +414,49 @@ fn one_change_is_announced_when_it_is_read(rt: HostRuntime) -> Result<(), Fail> 
 }
 
 /// How many changes a gate takes at once, for how many inputs the clock is asked if the first change ends the session, and how many
-/// changes are still expected then.
-const LEFT: &[(usize, u64, usize)] = &[(0, 2, 0), (1, 2, 0), (2, 3, 1), (5, 6, 1), (64, 65, 31)];
+/// changes are still expected then, also if it runs ahead.
+const LEFT: &[(usize, u64, [usize; 2])] = &[
+    (0, 2, [0, 0]),
+    (1, 2, [0, 0]),
+    (2, 3, [1, 1]),
+    (5, 6, [1, 3]),
+    (64, 65, [31, 63]),
+];
+
+/// Whether no more is decoded over such a gate than this row says, and as much is expected, whether it runs ahead or not.
+fn decodes<H: Wait>(
+    rt: &H,
+    alloc: Global,
+    sent: Cut,
+    row: &(usize, u64, [usize; 2]),
+    way: Way,
+) -> Result<bool, Fail> {
+    let (most, decoded, left) = *row;
+    for (runs_ahead, left) in [(false, left[0]), (true, left[1])] {
+        let refusing = Refusing {
+            fault: SubmitFault::Closed,
+            ..REFUSING_GATE
+        };
+        let gate = Expecting::new(alloc, refusing, most, runs_ahead);
+        let (outcome, gate) = serve_over(rt, alloc, sent, gate, way)?;
+        let is_ended = outcome.served == Ok(Served::ServerClosed(0x83)) && outcome.handled == 2;
+        if !is_ended || outcome.told != decoded || gate.next.len() != left {
+            return Ok(false);
+        }
+    }
+    Ok(true)
+}
 
 #[test]
 fn no_more_is_decoded_than_a_gate_takes(rt: HostRuntime) -> Result<(), Fail> {
     let bytes = two_runs(rt.alloc(), 100, 0)?;
+    let sent = cut_at(&bytes, CONNECT.len());
     for row in LEFT {
-        let (most, decoded, left) = *row;
         for way in WAYS {
-            let refusing = Refusing {
-                fault: SubmitFault::Closed,
-                ..REFUSING_GATE
-            };
-            let gate = Expecting::new(rt.alloc(), refusing, most);
-            let sent = cut_at(&bytes, CONNECT.len());
-            let (outcome, gate) = serve_over(&rt, rt.alloc(), sent, gate, *way)?;
-            assert!(rt; outcome.served == Ok(Served::ServerClosed(0x83)));
-            assert!(rt; outcome.handled == 2, "{most} {way:?}");
-            assert!(rt; outcome.told == decoded, "{most} {way:?}");
-            assert!(rt; gate.next.len() == left, "{most} {way:?}");
+            assert!(rt;
+                decodes(&rt, rt.alloc(), sent, row, *way)?,
+                "{row:?} {way:?}"
+            );
         }
     }
     Ok(())

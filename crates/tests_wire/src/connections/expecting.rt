@@ -17,23 +17,26 @@ pub(super) struct Expecting<G> {
     inner: G,
     /// How many changes it takes at once.
     most: usize,
+    /// Whether it is told of further changes while some are pending.
+    runs_ahead: bool,
     /// The changes that were announced and not submitted yet.
     pub(super) next: VecDeque<Operation>,
     /// What was announced.
     pub(super) announced: Vec<Announced>,
     submitted: usize,
-    /// Whether nothing was announced while another change was still expected, and each change was the next one that was expected, if
-    /// any was.
+    /// Whether no more was announced than it takes, and behind other changes only if it runs ahead, and each change was the next one that
+    /// was expected, if any was.
     pub(super) is_met: bool,
 }
 
 impl<G> Expecting<G> {
-    pub(super) fn new(alloc: Global, inner: G, most: usize) -> Expecting<G>
+    pub(super) fn new(alloc: Global, inner: G, most: usize, runs_ahead: bool) -> Expecting<G>
         ensures { result.inner ≡ inner }
     {
         Expecting {
             inner,
             most,
+            runs_ahead,
             next: VecDeque::new(alloc),
             announced: Vec::new(alloc),
             submitted: 0,
@@ -95,25 +98,30 @@ impl<G: Gate> Gate for Expecting<G> {
         self.most
     }
 
-    fn expect(&mut self, changes: Vec<Operation>) {
-        let is_noted = self.announced.push((self.submitted, changes.len())).is_ok();
-        if !is_noted || !self.next.is_empty() {
-            self.is_met = false;
-        }
-        self.next = VecDeque::from_vec(changes);
+    fn runs_ahead(&self) -> bool {
+        self.runs_ahead
     }
 
-    fn has_pending(&self) -> bool {
-        !self.next.is_empty()
+    fn expect(&mut self, changes: Vec<Operation>) {
+        let is_noted = self.announced.push((self.submitted, changes.len())).is_ok();
+        let is_behind = !self.next.is_empty();
+        let mut changes = VecDeque::from_vec(changes);
+        let is_taken = self.next.append(&mut changes).is_ok();
+        if !is_noted || !is_taken || self.next.len() > self.most {
+            self.is_met = false;
+        }
+        if is_behind && !self.runs_ahead {
+            self.is_met = false;
+        }
+    }
+
+    fn pending_count(&self) -> usize {
+        self.next.len()
     }
 
     fn submit(&mut self, operation: Operation) -> Result<(), SubmitFault> {
         let operation = self.take_next(operation);
         self.inner.submit(operation)
-    }
-
-    fn answer(&mut self, filter: &TopicFilter, now: u64) -> Result<Vec<Found>, AllocError> {
-        self.inner.answer(filter, now)
     }
 
     fn answer_within(

@@ -43,8 +43,8 @@ impl Gate for Answering {
 
     ghost mark = { λ _. record { place = 1; serial = 0; sent = None } };
 
-    fn has_pending(&self) -> bool {
-        false
+    fn pending_count(&self) -> usize {
+        0
     }
 
     fn submit(&mut self, _operation: Operation) -> Result<(), SubmitFault> {
@@ -53,13 +53,6 @@ impl Gate for Answering {
         };
         self.changes = rest;
         *first
-    }
-
-    fn answer(&mut self, _filter: &TopicFilter, _now: u64) -> Result<Vec<Found>, AllocError> {
-        match self.filter() {
-            FilterAnswer::Nothing | FilterAnswer::TooLong => Ok(Vec::new(self.alloc)),
-            FilterAnswer::NoMemory => Err(AllocError),
-        }
     }
 
     fn answer_within(

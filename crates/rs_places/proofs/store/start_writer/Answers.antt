@@ -20,6 +20,6 @@ spawn_with-requires-send-T g c κs within =
 
 pub spawn_with-requires-clause-keeps : goal.spawn_with-requires-clause-keeps
 spawn_with-requires-clause-keeps g c κs within = λ r e.
-    let P : List Entry → Type 0 = λ l. HasWritten g.N.StoreName.limit g.N.LineName.places g.S.StoreWriter.most_held l (g.S.StoreWriter.written r.writer) r.received r.ways.items r.cause in
+    let P : List Entry → Type 0 = λ l. HasWritten g.N.StoreName.limit g.N.LineName.places g.S.StoreWriter.most_held l (g.S.StoreWriter.written r.writer) (g.S.StoreWriter.ready r.writer) r.received r.ways.items r.cause in
     let began = ap (λ w. kept_of (g.S.StoreWriter.written w)) c.of-began.ensures in
     subst P (sym began) e

@@ -20,13 +20,13 @@ returns-in-One-clause-replied g c =
     let e = c.put_alone.ensures.replied in
     let told = c.put_alone.new.to in
     let ways = c.args.self.now.senders.items in
-    let place = c.place.ensures.place in
-    let some = c.place.ensures.some in
+    let place = c.place-place.ensures.place in
+    let some = c.place-place.ensures.some in
     let there = c.requires.place in
     let is : c.in-One.entry ∷ [] ≡ c.args.changes = c.in-One.ensures.entries in
     let R : List Entry → Type 0 = λ l. AreReplied g.N.StoreName.limit g.S.StoreWriter.most_held (g.S.StoreWriter.written c.args.writer.now) l e.0 c.put_alone.result (g.S.StoreWriter.written c.put_alone.new.writer) in
-    let here : c.place.result - 1 < length ways = omega (arith, place, some, there) in
-    let way : c.index_mut-to.result.now ≡ way_to (place_of_all c.args.changes) ways = get_or_read ways _ _ here c.index_mut-to.ensures.value untold ∙ ap (λ (p : ℕ). way_to p ways) place in
+    let here : c.place-place.result - 1 < length ways = omega (arith, place, some, there) in
+    let way : c.set_alone.new.self ≡ way_to (place_of_all c.args.changes) ways = c.set_alone.ensures ∙ get_or_read ways _ _ here c.index_mut-to.ensures.value untold ∙ ap (λ (p : ℕ). way_to p ways) place in
     let S : Told → Type 0 = λ w. AreSentNext w e.0 told in
     (e.0, subst R is e.1, (told, subst S way e.2, ap (λ (p : ℕ). set ways (p - 1) told) place))
 
@@ -35,12 +35,12 @@ returns-clause-replied g c =
     let e = c.put_and_send.ensures.replied in
     let told = c.put_and_send.new.to in
     let ways = c.args.self.now.senders.items in
-    let place = c.place.ensures.place in
-    let some = c.place.ensures.some in
+    let place = c.place-place.ensures.place in
+    let some = c.place-place.ensures.some in
     let there = c.requires.place in
     let is : c.from_vec-entries.result.items ≡ c.args.changes = search rules in
     let R : List Entry → Type 0 = λ l. AreReplied g.N.StoreName.limit g.S.StoreWriter.most_held (g.S.StoreWriter.written c.args.writer.now) l e.0 c.put_and_send.result (g.S.StoreWriter.written c.put_and_send.new.writer) in
-    let here : c.place.result - 1 < length ways = omega (arith, place, some, there) in
-    let way : c.index_mut-to.result.now ≡ way_to (place_of_all c.args.changes) ways = get_or_read ways _ _ here c.index_mut-to.ensures.value untold ∙ ap (λ (p : ℕ). way_to p ways) place in
+    let here : c.place-place.result - 1 < length ways = omega (arith, place, some, there) in
+    let way : c.set_alone.new.self ≡ way_to (place_of_all c.args.changes) ways = c.set_alone.ensures ∙ get_or_read ways _ _ here c.index_mut-to.ensures.value untold ∙ ap (λ (p : ℕ). way_to p ways) place in
     let S : Told → Type 0 = λ w. AreSentNext w e.0 told in
     (e.0, subst R is e.1, (told, subst S way e.2, ap (λ (p : ℕ). set ways (p - 1) told) place))

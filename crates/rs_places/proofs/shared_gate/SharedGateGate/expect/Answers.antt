@@ -1,4 +1,4 @@
-use Rattle.std.proofs.Common.{◌≡◌, ◌⊎◌, [], refl, sym, ap, subst, ◌∙◌, append-nil}
+use Rattle.std.proofs.Common.{◌≡◌, ◌⊎◌, ◌++◌, [], refl, sym, ap, subst, ◌∙◌, append-nil}
 use Rattle.rs_places_steps.specs.Shared.{SharedValue, operations_of}
 use Rattle.rs_places.proofs.Submitting.{announces, same_mark}
 use Rattle.rs_places.proofs.shared_gate.SharedGateGate.expect.Goals as goal
@@ -17,5 +17,5 @@ pub returns-clause-pending : goal.returns-clause-pending
 returns-clause-pending g c =
     let old = c.self.inside.line in
     let new = operations_of c.expect.new.self.ahead in
-    let P : SharedValue → Type 0 = λ v. (new ≡ c.args.changes.items) ⊎ ((new ≡ []) ⊎ (new ≡ v.pending)) in
-    subst P c.self.view_is (announces old.place old.serial c.args.changes.items old.ahead _ c.expect.ensures.ahead)
+    let P : SharedValue → Type 0 = λ v. (new ≡ v.pending ++ c.args.changes.items) ⊎ (new ≡ v.pending) in
+    subst P c.self.view_is (announces old.place _ c.args.changes.items old.ahead _ c.expect.ensures.ahead)

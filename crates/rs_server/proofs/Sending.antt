@@ -18,8 +18,8 @@ use Rattle.rs_session.specs.Run.{Exchange, GivesAll, Run}
 use Rattle.rs_session.specs.Stored.{IsToldStored}
 use Rattle.rs_session.specs.Replay.{IsOpen}
 use Rattle.rs_session.specs.Sent.{IsPublication, IsSentBy, SendsPublications}
-use Rattle.rs_session_laws.proofs.Keeping.{IsStored, told_row}
-use Rattle.rs_session_laws.proofs.Replaying.{shut}
+use Rattle.rs_server.proofs.Keeping.{IsStored, told_row}
+use Rattle.rs_server.proofs.Replaying.{shut}
 use Rattle.rs_session.proofs.Submitting.{nothing_sent}
 
 pub none_sent : (before after : Mark) → after ≡ before → Sends before.sent [] after.sent

@@ -1,5 +1,5 @@
-use Rattle.rs_session_laws.proofs.Keeping.{run_lists, run_keeps, run_marks}
-use Rattle.rs_session_laws.proofs.law.stored_of_run.Goals as goal
+use Rattle.rs_server.proofs.Keeping.{run_lists, run_keeps, run_marks}
+use Rattle.rs_server.proofs.run_laws.stored_of_run.Goals as goal
 
 pub returns-clause-lists : goal.returns-clause-lists
 returns-clause-lists c = run_lists

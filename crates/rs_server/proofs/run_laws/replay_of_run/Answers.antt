@@ -1,5 +1,5 @@
-use Rattle.rs_session_laws.proofs.Replaying.{run_opens, run_replays, replay_sends}
-use Rattle.rs_session_laws.proofs.law.replay_of_run.Goals as goal
+use Rattle.rs_server.proofs.Replaying.{run_opens, run_replays, replay_sends}
+use Rattle.rs_server.proofs.run_laws.replay_of_run.Goals as goal
 
 pub returns-clause-opened : goal.returns-clause-opened
 returns-clause-opened c = run_opens

@@ -1,10 +1,9 @@
 -- Lemmas on the lists along a run, and on the publications that it acknowledged.
-use Rattle.std.proofs.Common.{◌≡◌, ◌≢◌, ℕ, ◌==◌, ◌<◌, ◌⊎◌, Bool, true, false, cond, List, [], ◌∷◌, ◌++◌, map, length, Option, Some, None, Ok, refl, sym, ap, subst, ◌∙◌, inl, inr, append_assoc, append-nil, leb, suc, arith}
+use Rattle.std.proofs.Common.{◌≡◌, ◌≢◌, ℕ, ◌==◌, ◌⊎◌, Bool, true, false, cond, List, [], ◌∷◌, ◌++◌, map, length, Option, Some, None, Ok, refl, sym, ap, subst, ◌∙◌, inl, inr, append_assoc, append-nil, leb, suc, arith}
 use Rattle.std.specs.Prelude.{Contains}
-use Rattle.std.specs.List.{All, AllByRecursion, filter}
+use Rattle.std.specs.List.{All, AllByRecursion}
 use Rattle.std.specs.List.Sorted.{IsStrictlySortedBy}
 use Rattle.std.specs.Ordering.{nat_cmp}
-use Rattle.std.specs.Cmp.{ranked}
 use Rattle.std.specs.declared.cmp.Ordering.TheVariants.{Less}
 use Rattle.std.proofs.lemmas.Bool.Decides.{nat_tests}
 use Rattle.std.proofs.lemmas.List.Elements.{Contains-append_left}
@@ -21,7 +20,8 @@ use Rattle.rs_packet.specs.Values.{Asked}
 use Rattle.rs_message.specs.declared.entry.Entry.{Entry}
 use Rattle.rs_message.specs.declared.entry.Operation.{Operation}
 use Rattle.rs_store.specs.History.{SerialsRise, serials_of}
-use Rattle.rs_store.proofs.Entries.{Among, among, all_among, all_weaker}
+use Rattle.rs_store.proofs.Entries.{Among, among, all_among, all_append, all_weaker}
+use Rattle.rs_store.proofs.Histories.{below_itself, serials_first}
 use Rattle.std.proofs.lemmas.Map.Keys.{sorted_head, sorted_tail}
 use Rattle.rs_message.specs.Values.{OriginValue}
 use Rattle.rs_window.specs.Calls as window
@@ -45,8 +45,8 @@ use Rattle.rs_session.specs.Points.{Given, Point, with_state}
 use Rattle.rs_session.specs.Run.{Exchange, GivesAll, IsExchange, Run}
 use Rattle.rs_session.specs.Replay.{listed}
 use Rattle.rs_session.specs.Stored.{MarkGrows, lists_of, AreGrowing, point_after, SerialsRiseIn, IsToldStored, StandsOnce, IsStoredIn}
-use Rattle.rs_session.proofs.Rows.{prefix_trans}
-use Rattle.rs_session_laws.proofs.Replaying.{given_calls, left_replies, phase_of, shut}
+use Rattle.rs_session.proofs.Rows.{prefix_itself, prefix_trans}
+use Rattle.rs_server.proofs.Replaying.{given_calls, left_replies, phase_of, shut}
 
 -- ---- lists that grow
 
@@ -62,9 +62,6 @@ chain_append first (list ∷ before) mid after last (h, more) g = (h, chain_appe
 chain_all : (seen first : List Entry) (lists : List (List Entry)) (last : List Entry) → Extends first seen → Chain first lists last → AllByRecursion (λ later. Extends later seen) (lists ++ last ∷ [])
 chain_all seen first [] last h g = (prefix_trans seen first last h g, tt)
 chain_all seen first (list ∷ lists) last h (g, more) = let here = prefix_trans seen first list h g in (here, chain_all seen list lists last here more)
-
-prefix_itself : (list : List Entry) → Extends list list
-prefix_itself list = ([], sym (append-nil list))
 
 chain_grows : (first : List Entry) (lists : List (List Entry)) (last : List Entry) → Chain first lists last → AreGrowing (first ∷ (lists ++ last ∷ []))
 chain_grows first [] last h = ((h, tt), (tt, tt))
@@ -103,14 +100,6 @@ pub run_lists : (from to : Point State) (exchanges : List Exchange) → Run from
 run_lists from to exchanges run = chain_grows from.seen (lists_of exchanges) to.seen (run_chain from to exchanges run)
 
 -- ---- an origin that stands once
-
-below_itself : (n : ℕ) → nat_cmp n n ≡ Less → ⊥
-below_itself n h = let less : n < n = ranked n n Less (sym h) in omega (arith, less)
-
-serials_first : (place : ℕ) (first : Entry) (rest : List Entry) (b : Bool) → (first.origin.place == place) ≡ b
-    → serials_of place (first ∷ rest) ≡ cond b (first.origin.serial ∷ serials_of place rest) (serials_of place rest)
-serials_first place first rest true e = ap (λ (b : Bool). map (λ (x : Entry). x.origin.serial) (cond b (first ∷ filter (λ (x : Entry). x.origin.place == place) rest) (filter (λ (x : Entry). x.origin.place == place) rest))) e
-serials_first place first rest false e = ap (λ (b : Bool). map (λ (x : Entry). x.origin.serial) (cond b (first ∷ filter (λ (x : Entry). x.origin.place == place) rest) (filter (λ (x : Entry). x.origin.place == place) rest))) e
 
 -- what holds of the serials of a place holds of each entry of that place
 each_serial : (P : ℕ → Type 0) (place : ℕ) (entries : List Entry) → AllByRecursion P (serials_of place entries) → AllByRecursion (λ (x : Entry). x.origin.place ≡ place → P x.origin.serial) entries
@@ -352,10 +341,6 @@ exchange_stored from exchange o p answer Over due mid is told (closing, ended, u
 all_each : {A : Type 0} (P : A → Type 0) (xs : List A) → All P xs → AllByRecursion P xs
 all_each P [] all = tt
 all_each P (x ∷ xs) all = (all 0 x (omega arith), all_each P xs (λ k d h. all (suc k) d (omega (arith, h))))
-
-all_append : {A : Type 0} (P : A → Type 0) (xs ys : List A) → AllByRecursion P xs → AllByRecursion P ys → AllByRecursion P (xs ++ ys)
-all_append P [] ys h g = g
-all_append P (x ∷ xs) ys (first, h) g = (first, all_append P xs ys h g)
 
 lists_rise : (from to : Point State) (exchanges : List Exchange) → Run from exchanges to
     → SerialsRiseIn exchanges → SerialsRise from.seen → AllByRecursion SerialsRise (lists_of exchanges ++ to.seen ∷ [])

@@ -1,4 +1,0 @@
-pub mod Limits
-pub mod Replaying
-pub mod Keeping
-pub mod Sending
