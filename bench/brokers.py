@@ -1,7 +1,7 @@
 """Measures the program as a server beside the broker mosquitto, and prints a table in Markdown.
 
-Both listen on the loopback of one machine, and are measured in turns; each number is the median of
-five runs, or the least if a measure says so. The clients are bench/load.c. The table is for a
+Both listen on the loopback of one machine, and are measured alternately; each number is the median
+of five runs, or the least if a measure says so. The clients are bench/load.c. The table is for a
 person, on a quiet machine. With `--fleets` it has all fleets of clients, and nothing else, in a
 network of its own if that may be made, where more connections may wait. There the server may lose
 none. With `--once` each measure is made once and small, and none is judged.
@@ -487,7 +487,7 @@ FLEETS = (
 
 
 def values(measure, path, runs, scale):
-    """The values of the program and of mosquitto, which are measured in turns."""
+    """The values of the program and of mosquitto, which are measured alternately."""
     options = {**SERVICE, **measure.server}
     with Server(topics=TOPICS, **options) as server, Mosquitto() as mosquitto:
         tools = [measure.prepare(Load(path, broker), scale) for broker in (server, mosquitto)]

@@ -4,10 +4,13 @@ between servers of the program, to mosquitto and back.
 What a server holds is read by mosquitto_sub. It and mosquitto are Debian packages.
 """
 
+import socket
 import subprocess
 import sys
+from concurrent.futures import ThreadPoolExecutor
 from dataclasses import dataclass
 from time import monotonic
+from types import SimpleNamespace
 
 from checks.listening_messages import wanted
 from harness import debian
@@ -194,12 +197,26 @@ def a_server_that_is_not_there():
             wanted((status, printed) == (2, "") and is_told, f"status {status}, {errors}")
 
 
+def a_server_that_ends_inside_a_packet():
+    """Status 2 says which server closed the connection."""
+    with socket.create_server(("127.0.0.1", 0)) as listener, ThreadPoolExecutor() as threads:
+        source = SimpleNamespace(host="127.0.0.1", port=listener.getsockname()[1])
+        run = threads.submit(carry_over, source, source)
+        client, _ = listener.accept()
+        with client:
+            client.recv(1_024)
+            client.sendall(b"\x20")
+        told = f"carry_over: {source.host}:{source.port} closed the connection\n"
+        wanted(run.result() == (2, "", told), f"another end: {run.result()}")
+
+
 CHECKS = (
     ten_thousand,
     a_store_that_is_full,
     a_packet_that_is_too_large,
     chosen_topics,
     a_server_that_is_not_there,
+    a_server_that_ends_inside_a_packet,
 )
 
 

@@ -4,14 +4,16 @@ small, to see that this script works.
 Words name the checks to run. None fails by a time.
 """
 
+import itertools
 import subprocess
 import sys
 import tempfile
+from bisect import bisect_left
 from concurrent.futures import ThreadPoolExecutor
 from time import monotonic
 
 from checks.listening_messages import all_replayed, publish, replayed, subscribe, topic, wanted
-from checks.out_of_memory import in_turn
+from checks.out_of_memory import run_refused
 from harness import debian, packets
 from harness.client import Client
 from harness.packets import CONNACK, CONNECT, DISCONNECT, NO_SPACE, PUBACK, SUBACK, puback
@@ -23,6 +25,10 @@ from harness.words import NAME, given_words
 
 # How many publications a client sends in one piece.
 PIECE = 1_000
+PUBREC = packets.acknowledgement(0x50, 1)
+# From so many messages below one level to so many something new is made: a branch at the 9th, two
+# chunks at the 33rd, and the halves of the second at the 49th.
+GROWTHS = ((0, 20), (30, 36), (46, 52))
 # One place for one client, and one that two clients share.
 ONE_PLACE = ({"places": 1}, {"places": 1, "clients": 2})
 
@@ -91,6 +97,20 @@ def long_publications(count):
         ends(server, 1)
 
 
+def large_messages(count):
+    """So many messages of 200,000 bytes are there at once. All of them are cleared."""
+    numbers = range(count)
+    with Server(places=1, topics=count, connections=1) as server:
+        with Client(server).connect() as client:
+            for number in numbers:
+                client.ask(publish(topic(number), 200_000 * b"x"), PUBACK)
+            for number in numbers:
+                client.ask(publish(topic(number), b""), PUBACK)
+            client.ask(subscribe(b"#"), SUBACK)
+            client.disconnect()
+        ends(server, 1)
+
+
 def a_long_replay(count):
     """So many messages go to one client at once, at QoS 0 and 1."""
     with Server(places=1, topics=count, connections=2) as server:
@@ -114,7 +134,7 @@ def a_long_replay(count):
 
 
 def many_publications(count):
-    """One client sends so many, and then one more, which is kept and read."""
+    """One client sends so many, and then one more of each other QoS, which is kept and read."""
     names = [b"%d" % number for number in range(PIECE)]
     piece = b"".join(packets.publish(name, b"x") for name in names)
     for clients in ONE_PLACE:
@@ -122,8 +142,11 @@ def many_publications(count):
             with Client(server).connect() as client:
                 for _ in range(count // PIECE):
                     client.send(piece)
-                client.ask(publish(b"last", b"x"), PUBACK)
-                client.ask(subscribe(b"last"), SUBACK + replayed(b"last", b"x"))
+                # At QoS 2 it is sent alone, behind all that was announced before.
+                for qos, answer in ((1, PUBACK), (2, PUBREC)):
+                    payload = b"%d" % qos
+                    client.ask(packets.publish(b"last", payload, qos), answer)
+                    client.ask(subscribe(b"last"), SUBACK + replayed(b"last", payload))
                 client.disconnect()
             serves_one_more(server)
             ends(server, 3)
@@ -159,9 +182,9 @@ def refused_accepts(count, places=8):
 
 
 def replaced_levels(rounds, count=50):
-    """Topics have long levels, which two topics share, and their first messages are large. Once
-    each is replaced so often, the process keeps the levels and what came last. A filter may be as
-    long.
+    """Topics have long levels, half of which two topics share, and their first messages are large.
+    Once each is replaced so often, the process keeps the levels and what came last. A filter may
+    be as long.
 
     The large messages come in as many groups, each after the one before it is replaced, so that
     only one group is there at a time."""
@@ -171,14 +194,15 @@ def replaced_levels(rounds, count=50):
             started = most_memory(server.run.pid)
             for group in range(rounds):
                 levels = [b"%d/%04d" % (group, at) + size * b"l" for at in range(count)]
-                names = [level + part for level in levels for part in (b"/a", b"/b")]
+                second = [level + b"/b" for level in levels[::2]]
+                names = [level + b"/a" for level in levels] + second
                 for payload in (large * b"x", *(b"%d" % turn for turn in range(rounds))):
                     for name in names:
                         client.ask(publish(name, payload), PUBACK)
                 client.ask(subscribe(names[0]), SUBACK + replayed(names[0], payload))
             taken = most_memory(server.run.pid) - started
             # A level is in both topics and once for itself, in two trees. Of a group two messages
-            # are there in each place.
+            # are there in each place. What levels of one topic alone take less is not counted.
             kept, passing = rounds * count * 4 * size // 1_000, 2 * count * large // 1_000
             limit = 5 * kept // 4 + 2 * passing
             shown = f"{taken} kB for levels of {size} bytes (less than {limit} needed)"
@@ -188,30 +212,39 @@ def replaced_levels(rounds, count=50):
 
 
 def a_refused_growth(count):
-    """Of the messages below one level memory is refused to one allocation, whichever it is. So
-    many that come later take no more memory, one by one, than if it was not refused.
+    """Of the messages below one level memory is refused to one allocation, whichever it is, while
+    a bucket becomes a branch, a branch gets chunks, or a chunk is divided. So many messages in all
+    take no more memory, one by one, than if it was not refused.
 
     This stands in for the work of a put: a bucket that should have become a branch, and did not,
-    is copied whole for each message that it gets.
+    is copied whole for each message that it gets. So is a chunk that should have been divided.
     """
-    first, after = (
-        [b"g/%05d" % number for number in range(begin, begin + size)]
-        for begin, size in ((0, 20), (20, count))
-    )
-    few, many = (
-        CONNECT + b"".join(publish(name, b"x") for name in names) + DISCONNECT
-        for names in (first, first + after)
-    )
+    names = [b"g/%05d" % number for number in range(count)]
     words = [program(), "pipe", "--at", "0"]
+
+    def given(size):
+        """What publishes so many of them."""
+        return CONNECT + b"".join(publish(name, b"x") for name in names[:size]) + DISCONNECT
+
     with tempfile.TemporaryDirectory() as folder:
         library = preloaded("failing_malloc", folder)
-        allocations = sum(1 for _ in in_turn(words, few, library))
-        asked = [bytes_asked(words, many, library, at) for at in range(1, allocations + 1)]
-        # The last one has none that fails.
-        least = bytes_asked(words, many, library, 0)
+        made = [allocations(words, given(size), library) for size in itertools.chain(*GROWTHS)]
+        refused = [at for few, more in zip(made[::2], made[1::2]) for at in range(few, more)]
+        asked = [bytes_asked(words, given(count), library, at) for at in refused]
+        # Before the first one none fails.
+        least = bytes_asked(words, given(count), library, 0)
     shown = f"{max(asked)} bytes are asked for, and {least} if nothing is refused"
     print(f"{NAME}: {len(asked)} allocations refused in turn: {shown}", flush=True)
     wanted(max(asked) < 11 * least // 10, shown)
+
+
+def allocations(words, given, library):
+    """How many allocations a run makes."""
+
+    def is_last(at):
+        return not run_refused(words, given, at + 1, 1, library)[1]
+
+    return bisect_left(range(1_000_000), True, key=is_last)
 
 
 def bytes_asked(words, given, library, at):
@@ -230,6 +263,8 @@ CHECKS = (
     # More than fit 20 bits.
     (connections_in_c, 1_100_000, 2_000),
     (long_publications, 2_000, 50),
+    # More than 100 MB.
+    (large_messages, 600, 20),
     (a_long_replay, 65_536, 5_000),
     (many_publications, 12_000_000, 100_000),
     (many_refusals, 200_000, 2_000),

@@ -150,7 +150,12 @@ class Server:
     def __init__(self, address):
         self.address = address
         host, _, port = address.rpartition(":")
-        self.socket = socket.create_connection((host.strip("[]"), int(port)), SILENCE)
+        if not host or not port.isdecimal():
+            raise Failure(f"{address} is not HOST:PORT")
+        try:
+            self.socket = socket.create_connection((host.strip("[]"), int(port)), SILENCE)
+        except OSError as error:
+            raise Failure(f"{address}: {error}") from error
         self.socket.setsockopt(socket.IPPROTO_TCP, socket.TCP_NODELAY, 1)
         self.reader = self.socket.makefile("rb")
         # A clean start, no Keep Alive, no property, and an identifier that the server chooses.
@@ -164,23 +169,25 @@ class Server:
     def send(self, data):
         self.socket.sendall(data)
 
+    def receive(self, size):
+        data = self.reader.read(size)
+        if len(data) < size:
+            raise Failure(f"{self.address} closed the connection")
+        return data
+
     def take(self):
         """The next packet: its type, its flags, and what follows its length."""
-        first = self.reader.read(1)
-        length, shift = 0, 0
-        while first:
-            digit = self.reader.read(1)[0]
+        (first,) = self.receive(1)
+        length, shift, digit = 0, 0, 128
+        while digit >= 128:
+            (digit,) = self.receive(1)
             length |= (digit & 127) << shift
             shift += 7
-            if digit < 128:
-                break
-        body = self.reader.read(length)
-        if not first or len(body) < length:
-            raise Failure(f"{self.address} closed the connection")
-        if first[0] >> 4 == DISCONNECT:
+        body = self.receive(length)
+        if first >> 4 == DISCONNECT:
             code = f" with 0x{body[0]:02x}" if body else ""
             raise Failure(f"{self.address} ended the connection{code}")
-        return first[0] >> 4, first[0] & 15, body
+        return first >> 4, first & 15, body
 
     def read(self, filters):
         """The retained messages that match a filter, by topic.
