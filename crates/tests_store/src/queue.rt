@@ -1,6 +1,5 @@
 //! Lines, a writer and seats over threads, and each refusal.
 
-mod ahead;
 mod fullness;
 mod log;
 mod many;

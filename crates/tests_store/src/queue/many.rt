@@ -40,7 +40,7 @@ struct Row {
 }
 
 /// So many Sets. `None` if memory is refused.
-pub(crate) fn changes_of(alloc: Global, count: u64) -> Option<Vec<Operation>>
+fn changes_of(alloc: Global, count: u64) -> Option<Vec<Operation>>
     ensures { IfSome result (λ changes. All (λ o. is_sweep o ≡ false) changes.items) }
 {
     let mut changes = Vec::new(alloc);
