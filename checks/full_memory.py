@@ -67,7 +67,7 @@ def limit(server, size):
 
 @contextmanager
 def full_server(size, clients, environment=None):
-    """A server that has refused publications for want of memory, a client that was there before,
+    """A server that has refused publications because memory was refused, a client that was there before,
     and the numbers of the topics that it acknowledged."""
     options = {"places": PLACES, "clients": clients, "environment": environment}
     with Server(topics=65_536, **options) as server:

@@ -33,9 +33,9 @@ const _: () = prove!(MAX_HELD == 1_024);
 /// A writer that commits each entry to a journal before it publishes it. Contracts see it as what it has written, and the entries that it
 /// was made ready for.
 ///
-/// An entry is *held* if it is committed and could not be published, for want of memory, or if its commit is in doubt. After a commit in
-/// doubt the files are never touched again, nothing more is published, and each later change is refused: the next opening tells what is
-/// kept.
+/// An entry is *held* if it is committed and could not be published because memory was refused, or if its commit is in doubt. After a
+/// commit in doubt the files are never touched again, nothing more is published, and each later change is refused: the next opening tells
+/// what is kept.
 #[derive(Drop)]
 pub struct KeptWriter<N: StoreName, R: Wait + Drop, D: Disk> {
     writer: VersionWriter<N, R>,
