@@ -1,3 +1,5 @@
 pub mod Moving
 pub mod Parts
+pub mod Sent
+pub mod Shortening
 pub mod Storing

@@ -1,5 +1,5 @@
 -- What contracts see of the parts of a writer that keeps what it publishes.
-use Rattle.std.proofs.Common.{◌≡◌, ◌⊎◌, inl, inr, ⊎_elim, ℕ, ◌+◌, ◌-◌, ◌<◌, ◌≤◌, Bool, true, false, List, [], ◌∷◌, ◌++◌, drop, length, take, refl, sym, ap, subst, ◌∙◌, append_assoc, append-nil, length-append, arith}
+use Rattle.std.proofs.Common.{◌≡◌, ◌⊎◌, ⊎_elim, ℕ, ◌+◌, ◌-◌, ◌<◌, ◌≤◌, Bool, true, false, List, [], ◌∷◌, ◌++◌, drop, length, take, refl, sym, ap, subst, ◌∙◌, append_assoc, append-nil, length-append, arith}
 use Rattle.std.proofs.lemmas.List.{drop_all, length-drop, length-take, take-append-drop, take_all}
 use Rattle.std.specs.Prelude.{Result, Ok, Err, MatchResult, OnErr, OnOk}
 use mathlib.Core.List.{IsPrefix}
@@ -13,15 +13,10 @@ use Rattle.rs_version.specs.Space.{HasSpaceFor, HaveOrigins}
 use Rattle.rs_version.specs.Writer.{IsHeldBehind, IsReleasedInPart, Written, holds_back, kept_of, released, shows}
 use Rattle.rs_journal.specs.declared.journal.Journal.{Journal}
 use Rattle.rs_journal.specs.Journals.{may_leave}
-use Rattle.rs_journal.specs.Restarting.{operations_of}
-use Rattle.rs_journal.specs.Retaining.{retained_after}
-use Rattle.rs_journal.proofs.RestartLemmas.{operations_retain}
-use Rattle.rs_store.specs.History.{AreRetained}
-use Rattle.rs_message.specs.Values.{MessageValue}
 use Rattle.rs_journal_writer.specs.declared.kept_writer.TheConstants.{MAX_HELD}
 use Rattle.rs_journal_writer.specs.Keeping.{IsSafe, KeptValue, Survives}
-use Rattle.rs_journal_writer.specs.State.{AreStored, HasImage, IsKeeping, MayStore, Moves, Stores, held_in, ready_in, written_in}
-use Rattle.rs_journal_writer.proofs.Moving.{moves_few, some_long}
+use Rattle.rs_journal_writer.specs.State.{HasImage, IsKeeping, MayStore, Moves, Stores, held_in, ready_in, written_in}
+use Rattle.rs_journal_writer.proofs.Moving.{moves_few}
 use Rattle.rs_journal_writer.proofs.Storing.{leaves_rest}
 use Rattle.sqlite_disk.specs.declared.Disk.{Ghosts}
 use Rattle.sqlite_wal.specs.Recovery.{Image}
@@ -262,7 +257,7 @@ survives_all w list n left front begins has = record {
   begins = begins;
   operations = has.operations;
   keeps = has.keeps;
-  retained = subst (λ (r : List (List ℕ × MessageValue)). AreRetained (w.published ++ front) r) (sym has.same) (operations_retain (w.published ++ front));
+  retained = has.same;
 }
 
 pub value_legal : (limit : ℕ) (w : Written) (list : List Entry) (n : ℕ) (k : KeptValue) (e : Entry) → record { written = written_in w list n; ready = ready_in list n } ≡ k
@@ -391,6 +386,32 @@ module _ {D : Type 0} {g : Ghosts D} where
         counted = there;
         stored = (i.held, may w.published was);
       }
+
+  -- what was done to the journal changes nothing of what is kept
+  pub keeping_tidied : (limit own : ℕ) (w : Written) (it it' : Journal D g) (list : List Entry) (n : ℕ) (in_doubt : Bool) → IsKeeping limit own w it list n in_doubt → in_doubt ≡ false → IsIdle w list n
+      → (Stores it w.published → Stores it' w.published) → IsKeeping limit own w it' list n in_doubt
+  keeping_tidied limit own w it it' list n true k sure i same = absurd (cc (sure))
+  keeping_tidied limit own w it it' list n false k sure i same =
+      let none = kept_idle w list n i in
+      record {
+        limit_is = k.limit_is;
+        legal = k.legal;
+        few = k.few;
+        counted = k.counted;
+        stored = subst (λ l. Stores it' l) (sym none) (same (subst (λ l. Stores it l) none k.stored));
+      }
+
+  -- the same in doubt
+  pub keeping_untidy : (limit own : ℕ) (w : Written) (it it' : Journal D g) (list : List Entry) (n : ℕ) (in_doubt : Bool) → IsKeeping limit own w it list n in_doubt → in_doubt ≡ false → IsIdle w list n
+      → (Stores it w.published → MayStore it' w.published []) → IsKeeping limit own w it' list n true
+  keeping_untidy limit own w it it' list n true k sure i may = absurd (cc (sure))
+  keeping_untidy limit own w it it' list n false k sure i may = record {
+    limit_is = k.limit_is;
+    legal = k.legal;
+    few = k.few;
+    counted = k.counted;
+    stored = (i.held, subst (λ l. MayStore it' w.published l) (sym i.none) (may (subst (λ l. Stores it l) (kept_idle w list n i) k.stored)));
+  }
 
   pub doubt_none : (limit own : ℕ) (w : Written) (it : Journal D g) (list : List Entry) (n : ℕ) (in_doubt : Bool) → IsKeeping limit own w it list n in_doubt → in_doubt ≡ true → w.held ≡ []
   doubt_none limit own w it list n true k sure = let stored : (w.held ≡ []) × MayStore it w.published list = k.stored in stored.0

@@ -1,13 +1,20 @@
 -- What holds of the parts of a writer that keeps what it publishes.
-use Rattle.std.specs.Prelude.{◌≡◌, ◌⊎◌, ◌≤◌, ◌++◌, ◌+◌, ◌-◌, ℕ, Bool, true, false, List, [], length, take, drop}
+use Rattle.std.specs.Prelude.{◌≡◌, ◌⊎◌, ◌≤◌, ◌++◌, ◌+◌, ◌-◌, ℕ, Bool, true, false, List, [], IfErr, Result, length, map, take, drop}
+use Rattle.std.specs.List.{All}
 use mathlib.Core.List.{IsPrefix}
+use Rattle.rs_message.specs.Values.{MessageValue}
 use Rattle.rs_message.specs.declared.entry.Entry.{Entry}
 use Rattle.rs_message.specs.declared.entry.Operation.{Operation}
-use Rattle.rs_store.specs.History.{IsLegal}
+use Rattle.rs_message.specs.declared.entry.Operation.TheVariants.{Set}
+use Rattle.rs_message.specs.declared.found.Found.{Found}
+use Rattle.rs_store.specs.Contents.{found_of}
+use Rattle.rs_journal_record.specs.Records.{IsOperation}
+use Rattle.rs_store.specs.History.{AreRetained, IsLegal}
 use Rattle.rs_version.specs.Writer.{Written, kept_of}
 use Rattle.rs_journal.specs.declared.journal.Journal.{Journal}
-use Rattle.rs_journal.specs.Journals.{Keeps, Rests, may_leave}
-use Rattle.rs_journal.specs.Restarting.{operations_of}
+use Rattle.rs_journal.specs.Journals.{IsClean, Keeps, Rests, may_leave}
+use Rattle.rs_journal.specs.Writing.{IsRefused}
+use Rattle.rs_journal.specs.declared.fault.WriteFault.{WriteFault}
 use Rattle.rs_journal.specs.Retaining.{retained_after}
 use Rattle.rs_journal_writer.specs.declared.kept_writer.TheConstants.{MAX_HELD}
 use Rattle.sqlite_disk.specs.declared.Disk.{Ghosts}
@@ -15,7 +22,7 @@ use Rattle.sqlite_wal.specs.Recovery.{Image}
 
 -- after these operations just that is retained which is retained after these entries
 abbrev pub RetainSame : List Operation → List Entry → Type 0
-RetainSame operations entries = retained_after operations ≡ retained_after (operations_of entries)
+RetainSame operations entries = AreRetained entries (retained_after operations)
 
 -- the image keeps such operations
 pub record HasImage (image : Image) (entries : List Entry) : Type 0 where
@@ -23,15 +30,28 @@ pub record HasImage (image : Image) (entries : List Entry) : Type 0 where
   pub keeps : Keeps image operations
   pub same : RetainSame operations entries
 
--- such operations stand in the journal, and no transaction is under way
+-- such operations stand in the journal, each of a form that a journal reads, and no transaction is under way
 pub record Stores {D : Type 0} {g : Ghosts D} (journal : Journal D g) (entries : List Entry) : Type 0 where
   pub standing : List Operation
+  pub formed : All IsOperation standing
   pub rests : Rests journal standing
   pub same : RetainSame standing entries
 
 -- each image that a crash may leave keeps those of the entries, or those of all
 abbrev pub MayStore : {D : Type 0} {g : Ghosts D} → Journal D g → List Entry → List Entry → Type 0
 MayStore journal entries more = (left : Image) → may_leave journal left → HasImage left entries ⊎ HasImage left (entries ++ more)
+
+-- the call did what it was to do, or left what stood
+abbrev pub IsSure : {A : Type 0} → Result A WriteFault → Type 0
+IsSure r = IfErr r IsRefused
+
+-- a Set of each of these messages
+abbrev pub sets_for : List Found → List Operation
+sets_for found = map (λ f. Set f) found
+
+-- they are the messages that are retained after these entries, if no wrong answer of the files was taken as true
+abbrev pub Lists : {D : Type 0} {g : Ghosts D} → Journal D g → List Entry → List Found → Type 0
+Lists journal entries found = IsClean journal → (retained : List (List ℕ × MessageValue)) × AreRetained entries retained × (found ≡ map found_of retained)
 
 -- Entries went from the list to the writer, from the first on, or from the writer to what is published
 pub record Moves (w : Written) (waiting : List Entry) (w' : Written) (waiting' : List Entry) : Type 0 where

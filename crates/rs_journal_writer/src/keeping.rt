@@ -1,6 +1,8 @@
 //! Entries that are kept in a journal.
 
 ghost use Rattle.std.specs.Prelude.{◌≡◌, ◌++◌, [], List, take, IfErr, IfOk, OnErr, OnOk};
+ghost use Rattle.std.specs.List.{All};
+ghost use Rattle.rs_journal_record.specs.Records.{IsOperation};
 ghost use Rattle.rs_message.specs.declared.entry.Entry.{Entry};
 ghost use Rattle.rs_message.specs.declared.entry.Operation.{Operation as Kept};
 ghost use Rattle.rs_journal.specs.Journals.{Holds, Rests};
@@ -9,7 +11,8 @@ ghost use Rattle.rs_journal.specs.Writing.{IsRefused};
 ghost use Rattle.rs_journal_writer.specs.State.{MayStore, Stores};
 ghost use Rattle.rs_version.specs.Space.{HaveOrigins};
 
-use rs_journal::{Journal, WriteFault};
+use crate::watching::{CommitOutcome, CommitWatch};
+use rs_journal::{Error, Journal, WriteFault};
 use rs_message::{Entry, Operation};
 use rs_store::bytes_of;
 use sqlite_disk::Disk;
@@ -62,6 +65,7 @@ pub fn copy_first(
 /// Pushes the operation of each of these entries.
 fn push_all<D: Disk>(journal: &mut Journal<D>, entries: &VecDeque<Entry>) -> Result<(), WriteFault>
     ensures pushed { OnOk result ((standing seen : List Kept) → Holds journal.old standing seen → Holds journal.new standing (seen ++ operations_of entries.now.items)) }
+    ensures formed { OnOk result (All IsOperation (operations_of entries.now.items)) }
     ensures kind { IfErr result IsRefused }
     ensures refused { OnErr result ((standing seen : List Kept) → Holds journal.old standing seen → Rests journal.new standing) }
 {
@@ -78,7 +82,7 @@ fn push_all<D: Disk>(journal: &mut Journal<D>, entries: &VecDeque<Entry>) -> Res
 }
 
 /// Commits the operations of these entries, in one commit, behind what the journal keeps. The errors are those of a commit.
-pub fn keep_all<D: Disk>(
+fn commit_all<D: Disk>(
     journal: &mut Journal<D>,
     entries: &VecDeque<Entry>,
 ) -> Result<(), WriteFault>
@@ -93,4 +97,24 @@ pub fn keep_all<D: Disk>(
         Ok(()) => Ok(()),
         Err(fault) => Err(fault),
     }
+}
+
+/// The same, if the watch allows it, which is told how it ends.
+pub fn keep_all<D: Disk, C: CommitWatch>(
+    journal: &mut Journal<D>,
+    entries: &VecDeque<Entry>,
+    watch: &mut C,
+) -> Result<(), WriteFault>
+    ensures kept { OnOk result ((before : List Entry) → Stores journal.old before → Stores journal.new (before ++ entries.now.items)) }
+    ensures refused { IfErr result (λ e. IsRefused e → (before : List Entry) → Stores journal.old before → Stores journal.new before) }
+    ensures crash { (before : List Entry) → Stores journal.old before → MayStore journal.new before entries.now.items }
+{
+    if !watch.may_commit() {
+        // Refused: what was committed before may not be on the disk.
+        return Err(WriteFault::Refused(Error::Closed));
+    }
+    watch.begins();
+    let result = commit_all(journal, entries);
+    watch.ends(&CommitOutcome::of(&result), journal.page_count());
+    result
 }

@@ -4,18 +4,20 @@ ghost use Rattle.std.specs.Prelude.{◌≡◌, ◌≢◌, ◌-◌, ◌≤◌, �
 ghost use Rattle.rs_message.specs.Messages.{is_sweep};
 ghost use Rattle.rs_message.specs.declared.entry.Entry.{Entry};
 ghost use Rattle.rs_store.specs.Adding.{Adds};
-ghost use Rattle.rs_store.specs.History.{IsLegal, extended};
+ghost use Rattle.rs_store.specs.History.{IsLegal, SerialsRise, extended};
 ghost use Rattle.rs_journal.specs.Journals.{may_leave};
 ghost use Rattle.rs_journal_writer.specs.Keeping.{IsSafe};
 ghost use Rattle.rs_journal_writer.specs.State.{Stores};
 ghost use Rattle.rs_version.specs.Copies.{listed};
 ghost use Rattle.rs_version.specs.Space.{HasSpaceFor};
-ghost use Rattle.rs_version.specs.Writer.{Defers, IsHeldBehind, IsReady, IsReleasedInPart, RefusesOf, kept_of, released, shows};
+ghost use Rattle.rs_version.specs.Writer.{Defers, IsHeldBehind, IsReady, IsReadyFor, IsReleasedInPart, RefusesOf, kept_of, released, shows};
 ghost use Rattle.rs_version.specs.declared.fault.PutFault.TheVariants.{Held};
 
 use crate::keeping::{are_small, copy_first, keep_all};
 use crate::publishing::{publish_first, publish_held};
-use rs_journal::{Journal, WriteFault};
+use crate::upkeep::Upkeep;
+use crate::watching::CommitWatch;
+use rs_journal::{Journal, Switch, WriteFault};
 use rs_message::{Entry, Origin};
 use rs_store::TopicLimit;
 use rs_version::{PutFault, Receipt, StoreName, StoreWriter, Told, VersionWriter};
@@ -37,7 +39,7 @@ const _: () = prove!(MAX_HELD == 1_024);
 /// commit in doubt the files are never touched again, nothing more is published, and each later change is refused: the next opening tells
 /// what is kept.
 #[derive(Drop)]
-pub struct KeptWriter<N: StoreName, R: Wait + Drop, D: Disk> {
+pub struct KeptWriter<N: StoreName, R: Wait + Drop, D: Disk, C: CommitWatch> {
     writer: VersionWriter<N, R>,
     journal: Journal<D>,
     limit: TopicLimit,
@@ -46,6 +48,8 @@ pub struct KeptWriter<N: StoreName, R: Wait + Drop, D: Disk> {
     // So many of them, the last ones, are to be put next. Those before were put, and are held.
     ready: usize,
     in_doubt: bool,
+    upkeep: Upkeep,
+    watch: C,
 }
 
 /// The origin of the first entry that waits, unless it is one of the last `ready`.
@@ -62,7 +66,7 @@ fn first_origin(waiting: &VecDeque<Entry>, ready: usize) -> Option<Origin>
     }
 }
 
-impl<N: StoreName, R: Wait + Drop, D: Disk> Model for KeptWriter<N, R, D> {
+impl<N: StoreName, R: Wait + Drop, D: Disk, C: CommitWatch> Model for KeptWriter<N, R, D, C> {
     ghost use Rattle.rs_journal_writer.specs.Keeping.{KeptValue};
     ghost use Rattle.rs_journal_writer.specs.State.{IsKeeping, ready_in, written_in};
 
@@ -73,14 +77,17 @@ impl<N: StoreName, R: Wait + Drop, D: Disk> Model for KeptWriter<N, R, D> {
     ghost invariant = { λ w. IsKeeping N.limit w.limit w.writer w.journal w.waiting.items w.ready w.in_doubt };
 }
 
-impl<N: StoreName, R: Wait + Drop, D: Disk + Drop> KeptWriter<N, R, D> {
-    /// Of a writer and a journal that keeps what is retained after what the writer has published.
+impl<N: StoreName, R: Wait + Drop, D: Disk + Drop, C: CommitWatch> KeptWriter<N, R, D, C> {
+    /// Of a writer and a journal that keeps what is retained after what the writer has published. Give the switch of its disks if they do
+    /// not sync at each commit: it is on while the log is copied.
     pub fn new(
         alloc: Global,
         writer: VersionWriter<N, R>,
         journal: Journal<D>,
         limit: TopicLimit,
-    ) -> KeptWriter<N, R, D>
+        switch: Option<Switch>,
+        watch: C,
+    ) -> KeptWriter<N, R, D, C>
         requires limit { limit ≡ N.limit }
         requires none { writer.held ≡ [] }
         requires stored { Stores journal writer.published }
@@ -96,7 +103,33 @@ impl<N: StoreName, R: Wait + Drop, D: Disk + Drop> KeptWriter<N, R, D> {
             waiting: VecDeque::new(alloc),
             ready: 0,
             in_doubt: false,
+            upkeep: Upkeep::new(alloc, switch),
+            watch,
         }
+    }
+
+    /// Lets a journal of so many pages be shortened, if it has four times as many as its messages take. Without this call, one of 16,384.
+    pub fn set_least_pages(&mut self, pages: u32)
+        ensures { self.new ≡ self.old }
+    {
+        self.upkeep.set_least_pages(pages);
+    }
+
+    /// Gives the journal back. What is held is dropped. Whatever a crash leaves of the journal stands for all that was published.
+    pub fn into_journal(self) -> Journal<D>
+        ensures { IsSafe (may_leave result) self }
+    {
+        let KeptWriter {
+            writer: _,
+            journal,
+            limit: _,
+            waiting: _,
+            ready: _,
+            in_doubt: _,
+            upkeep: _,
+            watch: _,
+        } = self;
+        journal
     }
 
     /// The journal. Whatever a crash leaves of it stands for all that is published.
@@ -123,6 +156,26 @@ impl<N: StoreName, R: Wait + Drop, D: Disk + Drop> KeptWriter<N, R, D> {
         publish_held(&mut self.writer, &mut self.waiting, self.ready)
     }
 
+    /// Copies the log and shortens the journal, if they are long. If that ends in doubt, so do all commits from then on. Each outcome retains
+    /// what is published.
+    fn tidy(&mut self)
+        requires ready { self.old.ready ≡ [] }
+        requires none { self.old.written.held ≡ [] }
+        ensures same { self.new ≡ self.old }
+    {
+        if self.in_doubt || !self.watch.may_commit() {
+            return;
+        }
+        match self
+            .upkeep
+            .tidy(&mut self.journal, &self.writer, &mut self.watch)
+        {
+            Ok(()) => {}
+            Err(WriteFault::Refused(_)) => {}
+            Err(WriteFault::Doubtful(_)) => self.in_doubt = true,
+        }
+    }
+
     /// Commits an entry that may come next, and publishes it. If the commit is refused, it is not kept.
     fn add(&mut self, entry: Entry) -> Result<Receipt<N>, PutFault>
         requires ready { self.old.ready ≡ [] }
@@ -144,7 +197,7 @@ impl<N: StoreName, R: Wait + Drop, D: Disk + Drop> KeptWriter<N, R, D> {
             Ok(()) => {}
             Err(_) => return Err(PutFault::NoMemory),
         }
-        match keep_all(&mut self.journal, &self.waiting) {
+        match keep_all(&mut self.journal, &self.waiting, &mut self.watch) {
             Ok(()) => {}
             Err(WriteFault::Refused(_)) => {
                 self.waiting.clear();
@@ -205,6 +258,7 @@ impl<N: StoreName, R: Wait + Drop, D: Disk + Drop> KeptWriter<N, R, D> {
             // Refused: its message would count more bytes than there may be.
             return Err(PutFault::NoMemory);
         }
+        self.tidy();
         self.add(entry)
     }
 
@@ -252,9 +306,40 @@ impl<N: StoreName, R: Wait + Drop, D: Disk + Drop> KeptWriter<N, R, D> {
         }
         are_small(changes, count, self.writer.free_bytes())
     }
+
+    /// Commits the first `count` of these changes at once, for which there is space: all of them, or none.
+    fn keep_first(&mut self, changes: &VecDeque<Entry>, count: usize)
+        requires ready { self.old.ready ≡ [] }
+        requires none { self.old.written.held ≡ [] }
+        requires few { count ≤ MAX_HELD }
+        requires rises { SerialsRise (kept_of self.old.written ++ changes.now.items) }
+        requires space { HasSpaceFor N.limit self.old.written.published count }
+        ensures same { self.new.written ≡ self.old.written }
+        ensures ready { IsReadyFor self.new.ready (take count changes.now.items) }
+    {
+        if self.in_doubt {
+            return;
+        }
+        match copy_first(changes, count, &mut self.waiting) {
+            Ok(()) => {}
+            Err(_) => {
+                self.waiting.clear();
+                return;
+            }
+        }
+        match keep_all(&mut self.journal, &self.waiting, &mut self.watch) {
+            Ok(()) => self.ready = self.waiting.len(),
+            Err(WriteFault::Refused(_)) => self.waiting.clear(),
+            Err(WriteFault::Doubtful(_)) => {
+                self.ready = self.waiting.len();
+                self.in_doubt = true;
+            }
+        }
+    }
 }
 
-impl<N: StoreName, R: Wait + Drop, D: Disk + Drop> StoreWriter<N> for KeptWriter<N, R, D> {
+impl<N: StoreName, R: Wait + Drop, D: Disk + Drop, C: CommitWatch> StoreWriter<N>
+    for KeptWriter<N, R, D, C> {
     ghost use Rattle.rs_journal_writer.specs.declared.kept_writer.TheConstants.{MAX_HELD};
 
     ghost written = { λ writer. writer.written };
@@ -268,24 +353,11 @@ impl<N: StoreName, R: Wait + Drop, D: Disk + Drop> StoreWriter<N> for KeptWriter
     }
 
     fn make_ready(&mut self, changes: &VecDeque<Entry>, count: usize) {
-        if self.in_doubt || !self.has_space_for(changes, count) {
+        if !self.has_space_for(changes, count) {
             return;
         }
-        match copy_first(changes, count, &mut self.waiting) {
-            Ok(()) => {}
-            Err(_) => {
-                self.waiting.clear();
-                return;
-            }
-        }
-        match keep_all(&mut self.journal, &self.waiting) {
-            Ok(()) => self.ready = self.waiting.len(),
-            Err(WriteFault::Refused(_)) => self.waiting.clear(),
-            Err(WriteFault::Doubtful(_)) => {
-                self.ready = self.waiting.len();
-                self.in_doubt = true;
-            }
-        }
+        self.tidy();
+        self.keep_first(changes, count);
     }
 
     fn put(&mut self, entry: Entry) -> Result<Receipt<N>, PutFault> {

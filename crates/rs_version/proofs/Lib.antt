@@ -7,4 +7,5 @@ pub mod Prefixes
 pub mod Sent
 pub mod Space
 pub mod VersionRule
+pub mod Whole
 pub mod WriterState

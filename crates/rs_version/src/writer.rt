@@ -8,7 +8,7 @@ ghost use Rattle.rs_message.specs.Messages.{is_sweep};
 ghost use Rattle.rs_topic.specs.Order.{topic_cmp};
 ghost use Rattle.rs_store.specs.Adding.{Adds};
 ghost use Rattle.rs_store.specs.Bytes.{retained_bytes};
-ghost use Rattle.rs_store.specs.Contents.{after, empty};
+ghost use Rattle.rs_store.specs.Contents.{after, empty, found_of};
 ghost use Rattle.rs_store.specs.declared.content.Content.{Content};
 ghost use Rattle.rs_store.specs.Expiring.{NoneExpiredBefore};
 ghost use Rattle.rs_message.specs.declared.entry.Entry.{Entry};
@@ -30,8 +30,9 @@ use crate::history::StoreName;
 use crate::named::{NamedList, WholeHistory};
 use crate::receipt::{Receipt, Told};
 use crate::reserve::Reserve;
-use rs_message::{Entry, Operation, Origin};
+use rs_message::{Entry, Found, Operation, Origin};
 use rs_store::{Calm, Catalogue, Refusal, TopicLimit, bytes_of, judge};
+use rs_topic::TopicFilter;
 use std::alloc::{AllocError, Global};
 use std::marker::Model;
 use std::sync::Wait;
@@ -440,6 +441,23 @@ impl<N: StoreName, R: Wait + Drop> VersionWriter<N, R> {
         ensures { (c : Content) × Stands c self.now.published × (result ≡ retained_bytes c.retained) }
     {
         self.copies.catalogue().bytes()
+    }
+
+    /// All messages of the published list, in the order of replay: those that a topic filter `#` finds at moment 0. `None` if these are not
+    /// all, since a topic begins with `$`, which no wildcard matches (4.7.2), or a message is expired even then.
+    pub fn retained(&self, alloc: Global) -> Result<Option<Vec<Found>>, AllocError>
+        ensures { IfOk result (λ o. IfSome o (λ found. (c : Content) × Stands c self.now.published × (found.items ≡ map found_of c.retained))) }
+    {
+        let every = match TopicFilter::read(alloc, b"#") {
+            Ok(filter) => filter,
+            Err(_) => return Err(AllocError),
+        };
+        let catalogue = self.copies.catalogue();
+        let found = catalogue.answer(&every, 0)?;
+        if found.len() != catalogue.count() as usize {
+            return Ok(None);
+        }
+        Ok(Some(found))
     }
 
     /// How many topics hold a message after the published list.

@@ -17,6 +17,7 @@ returns-in-Ok-list-clause-stored g c =
     let retains : c.open.new.sink.messages.entries ≡ retained_after found.0 = found.1 [] c.new-retained.ensures in
     record {
       standing = found.0;
+      formed = found.2;
       rests = found.4;
       same = first_same found.0 c.open.new.sink.messages.entries c.in-Ok-list.given.items c.in-Ok-list.ensures.list retains c.in-Ok-list.ensures.leave;
     }

@@ -1,13 +1,12 @@
-use Rattle.std.proofs.Common.{◌≡◌, ◌∷◌, ◌++◌, ◌∙◌, [], List, ap, length, sym, subst, arith}
+use Rattle.std.proofs.Common.{◌∷◌, ◌++◌, ◌∙◌, [], List, ap, length, sym, subst, arith}
 use Rattle.rs_message.specs.declared.entry.Entry.{Entry}
 use Rattle.rs_store.specs.History.{IsLegal, extended}
-use Rattle.rs_version.specs.Writer.{Written, holds_back, shows}
+use Rattle.rs_version.specs.Writer.{holds_back, shows}
 use Rattle.rs_journal.specs.Writing.{IsRefused}
 use Rattle.rs_journal.specs.declared.fault.WriteFault.{WriteFault}
 use Rattle.rs_journal_writer.specs.Keeping.{KeptValue}
-use Rattle.rs_journal_writer.specs.State.{IsKeeping, ready_in, written_in}
 use Rattle.rs_journal_writer.proofs.Moving.{left_one, moves_few}
-use Rattle.rs_journal_writer.proofs.Parts.{IsIdle, idle, keeping_doubtful, keeping_kept, keeping_moved, keeping_one, keeping_refused, value_legal, one_held, one_is, one_left, one_shown, ready_zero}
+use Rattle.rs_journal_writer.proofs.Parts.{idle, keeping_doubtful, keeping_moved, keeping_one, keeping_refused, value_legal, one_held, one_is, one_left, one_shown, ready_zero}
 use Rattle.rs_journal_writer.proofs.kept_writer.KeptWriter.add.Goals as goal
 
 pub invariant_of-self-in-Err-Refused : goal.invariant_of-self-in-Err-Refused

@@ -1,4 +1,4 @@
-use Rattle.std.proofs.Common.{sym, subst}
+use Rattle.std.proofs.Common.{subst}
 use Rattle.rs_journal.specs.Journals.{may_leave}
 use Rattle.rs_journal_writer.specs.Keeping.{IsSafe, KeptValue}
 use Rattle.rs_journal_writer.proofs.Parts.{safe}

@@ -1,7 +1,7 @@
-use Rattle.std.proofs.Common.{◌≡◌, ◌≢◌, ◌∙◌, ◌+◌, ◌<◌, [], ap, arith, length, subst}
+use Rattle.std.proofs.Common.{◌≡◌, ◌≢◌, ◌∙◌, ◌+◌, ◌<◌, [], ap, length, subst}
 use Rattle.rs_version.specs.Writer.{IsReleasedInPart, Written, released}
 use Rattle.rs_journal_writer.specs.Keeping.{KeptValue}
-use Rattle.rs_journal_writer.specs.State.{ready_in, written_in}
+use Rattle.rs_journal_writer.specs.State.{written_in}
 use Rattle.rs_journal_writer.proofs.Parts.{held_some, in_part, match_of, none_ready, ready_zero, released_in}
 use Rattle.rs_journal_writer.proofs.kept_writer.KeptWriter.publish_all.Goals as goal
 

@@ -1,4 +1,5 @@
-use Rattle.std.proofs.Common.{◌≡◌, ◌∙◌, [], ap, refl}
+use Rattle.std.proofs.Common.{◌∙◌, ap, refl, subst, sym}
+use Rattle.rs_version.specs.Writer.{IsReady, Written}
 use Rattle.rs_version.specs.declared.fault.PutFault.TheVariants.{NoMemory}
 use Rattle.rs_version.proofs.Holding.{refused_of, refuses_of}
 use Rattle.rs_version.proofs.WriterState.{ready_added, ready_deferred, ready_free, ready_refuses}
@@ -20,9 +21,20 @@ returns-then-not-has_room-clause-refused g c =
     (ready_refuses g.N.StoreName.limit c.args.self.now.written after after c.args.entry c.in_default.ensures.ready refl)
 
 pub returns-clause-published : goal.returns-clause-published
-returns-clause-published g c = ready_added c.add.result g.N.StoreName.limit c.args.self.now.written c.make_space.new.self.written c.add.new.self.written c.args.entry c.in_default.ensures.ready c.add.ensures.published
+returns-clause-published g c =
+    let limit = g.N.StoreName.limit in
+    let old = c.args.self.now.written in
+    let mid = c.tidy.new.self.written in
+    let R : Written → Type 0 = λ w. IsReady limit old c.args.entry w in
+    let ready : R mid = subst R (sym (ap (λ (k : KeptValue). k.written) c.tidy.ensures.same)) c.in_default.ensures.ready in
+    ready_added c.add.result limit old mid c.add.new.self.written c.args.entry ready c.add.ensures.published
 
 pub returns-clause-refused : goal.returns-clause-refused
 returns-clause-refused g c =
-    refused_of c.add.result g.N.StoreName.limit c.args.self.now.written c.add.new.self.written c.args.entry
-    (ready_deferred c.add.result g.N.StoreName.limit c.args.self.now.written c.make_space.new.self.written c.add.new.self.written c.args.entry c.in_default.ensures.ready c.add.ensures.deferred)
+    let limit = g.N.StoreName.limit in
+    let old = c.args.self.now.written in
+    let mid = c.tidy.new.self.written in
+    let R : Written → Type 0 = λ w. IsReady limit old c.args.entry w in
+    let ready : R mid = subst R (sym (ap (λ (k : KeptValue). k.written) c.tidy.ensures.same)) c.in_default.ensures.ready in
+    refused_of c.add.result limit old c.add.new.self.written c.args.entry
+    (ready_deferred c.add.result limit old mid c.add.new.self.written c.args.entry ready c.add.ensures.deferred)

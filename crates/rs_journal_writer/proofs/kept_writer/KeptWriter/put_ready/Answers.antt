@@ -1,9 +1,8 @@
-use Rattle.std.proofs.Common.{◌≡◌, ◌∷◌, ◌∙◌, ◌-◌, ◌+◌, List, ap, arith, drop, length, refl, sym, subst}
-use Rattle.rs_message.specs.declared.entry.Entry.{Entry}
+use Rattle.std.proofs.Common.{◌≡◌, ◌∙◌, ◌-◌, ap, arith, drop, length, refl, subst}
 use Rattle.rs_store.specs.History.{IsLegal, extended}
 use Rattle.rs_version.specs.Writer.{IsHeldBehind, Written, kept_of, shows}
 use Rattle.rs_journal_writer.specs.Keeping.{KeptValue}
-use Rattle.rs_journal_writer.specs.State.{Moves, written_in}
+use Rattle.rs_journal_writer.specs.State.{written_in}
 use Rattle.rs_journal_writer.proofs.Moving.{left_some, moves_none, moves_trans}
 use Rattle.rs_journal_writer.proofs.Parts.{keeping_less, keeping_moved, next_is, next_legal, put_held, put_ready, put_shown, ready_some}
 use Rattle.rs_journal_writer.proofs.kept_writer.KeptWriter.put_ready.Goals as goal

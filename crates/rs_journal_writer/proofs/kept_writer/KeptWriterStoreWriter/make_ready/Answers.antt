@@ -1,74 +1,31 @@
-use Rattle.std.proofs.Common.{◌≡◌, ◌≤◌, ◌∙◌, [], ap, arith, length, subst, sym}
-use Rattle.std.proofs.lemmas.List.{length-take}
-use Rattle.rs_journal.specs.Writing.{IsRefused}
-use Rattle.rs_journal.specs.declared.fault.WriteFault.{WriteFault}
-use Rattle.rs_journal_writer.proofs.Parts.{batch_legal, batch_shown, idle, keeping_doubtful, keeping_kept, keeping_refused}
+use Rattle.std.proofs.Common.{◌∙◌, ◌++◌, ap, subst, sym}
+use Rattle.rs_store.specs.History.{SerialsRise}
+use Rattle.rs_version.specs.Space.{HasSpaceFor}
+use Rattle.rs_version.specs.Writer.{kept_of}
+use Rattle.rs_journal_writer.specs.Keeping.{KeptValue}
 use Rattle.rs_journal_writer.proofs.kept_writer.KeptWriterStoreWriter.make_ready.Goals as goal
 
-pub copy_first-requires : goal.copy_first-requires
-copy_first-requires g c =
-    let s = c.self.inside in
-    let v = c.args.self.now in
-    let none = c.has_space_for.ensures.none c.if-not-has_space_for.false in
-    let i = idle s.writer s.waiting.items s.ready v c.self.view_is c.self.invariant.counted none c.requires.none in
-    i.none
+pub tidy-requires-clause-none : goal.tidy-requires-clause-none
+tidy-requires-clause-none g c = c.has_space_for.ensures.none c.if-not-has_space_for.false
 
-pub invariant_of-self-in-Ok-keep_all : goal.invariant_of-self-in-Ok-keep_all
-invariant_of-self-in-Ok-keep_all g c =
-    let s = c.self.inside in
-    let v = c.args.self.now in
-    let none = c.has_space_for.ensures.none c.if-not-has_space_for.false in
-    let i = idle s.writer s.waiting.items s.ready v c.self.view_is c.self.invariant.counted none c.requires.none in
-    let list = c.copy_first.new.list.items in
-    let limit = g.N.StoreName.limit in
-    let few = c.has_space_for.ensures.few c.if-not-has_space_for.false in
-    let legal = batch_legal limit s.writer s.waiting.items list c.args.changes.now.items s.ready c.args.count v c.self.view_is none c.in-Ok.ensures.copies c.in-Ok.ensures.origins c.requires.rises
-    (c.has_space_for.ensures.space c.if-not-has_space_for.false) in
-    let short = length-take c.args.count c.args.changes.now.items in
-    let long = ap length c.in-Ok.ensures.copies in
-    keeping_kept _ _ s.writer s.journal c.keep_all.new.journal s.waiting.items list s.ready c.len-self-inside.result s.in_doubt c.self.invariant c.if-self.false i legal
-    (omega (arith, few, short, long)) (omega arith) c.in-Ok-keep_all.ensures.kept
+pub keep_first-requires-clause-ready : goal.keep_first-requires-clause-ready
+keep_first-requires-clause-ready g c = ap (λ (k : KeptValue). k.ready) c.tidy.ensures.same ∙ c.requires.none
 
-pub invariant_of-self-in-Err-Refused : goal.invariant_of-self-in-Err-Refused
-invariant_of-self-in-Err-Refused g c =
-    let s = c.self.inside in
-    let v = c.args.self.now in
-    let none = c.has_space_for.ensures.none c.if-not-has_space_for.false in
-    let i = idle s.writer s.waiting.items s.ready v c.self.view_is c.self.invariant.counted none c.requires.none in
-    let refused : IsRefused c.in-Err-Refused.field-0 = subst (λ (e : WriteFault). IsRefused e) (sym c.in-Err-Refused.field-0-is) tt in
-    keeping_refused _ _ s.writer s.journal c.keep_all.new.journal s.waiting.items c.clear-in-Err-Refused.new.self.items s.ready s.in_doubt c.self.invariant c.if-self.false i
-    c.clear-in-Err-Refused.ensures.items (c.in-Err-Refused.ensures.refused refused)
+pub keep_first-requires-clause-none : goal.keep_first-requires-clause-none
+keep_first-requires-clause-none g c = ap (λ (k : KeptValue). k.written.held) c.tidy.ensures.same ∙ c.has_space_for.ensures.none c.if-not-has_space_for.false
 
-pub invariant_of-self-in-Err-Doubtful : goal.invariant_of-self-in-Err-Doubtful
-invariant_of-self-in-Err-Doubtful g c =
-    let s = c.self.inside in
-    let v = c.args.self.now in
-    let none = c.has_space_for.ensures.none c.if-not-has_space_for.false in
-    let i = idle s.writer s.waiting.items s.ready v c.self.view_is c.self.invariant.counted none c.requires.none in
-    let list = c.copy_first.new.list.items in
-    let limit = g.N.StoreName.limit in
-    let few = c.has_space_for.ensures.few c.if-not-has_space_for.false in
-    let legal = batch_legal limit s.writer s.waiting.items list c.args.changes.now.items s.ready c.args.count v c.self.view_is none c.in-Ok.ensures.copies c.in-Ok.ensures.origins c.requires.rises
-    (c.has_space_for.ensures.space c.if-not-has_space_for.false) in
-    let short = length-take c.args.count c.args.changes.now.items in
-    let long = ap length c.in-Ok.ensures.copies in
-    keeping_doubtful _ _ s.writer s.journal c.keep_all.new.journal s.waiting.items list s.ready c.len-self-inside-in-Err-Doubtful.result s.in_doubt c.self.invariant c.if-self.false i legal
-    (omega (arith, few, short, long)) (omega arith) c.in-Err-Doubtful.ensures.crash
+pub keep_first-requires-clause-few : goal.keep_first-requires-clause-few
+keep_first-requires-clause-few g c = c.has_space_for.ensures.few c.if-not-has_space_for.false
 
-pub returns-in-Ok-keep_all-clause-same : goal.returns-in-Ok-keep_all-clause-same
-returns-in-Ok-keep_all-clause-same g c =
-    let s = c.self.inside in
-    let v = c.args.self.now in
-    let none = c.has_space_for.ensures.none c.if-not-has_space_for.false in
-    let i = idle s.writer s.waiting.items s.ready v c.self.view_is c.self.invariant.counted none c.requires.none in
-    let len : length c.copy_first.new.list.items ≡ c.len-self-inside.result = omega arith in
-    batch_shown s.writer s.waiting.items c.copy_first.new.list.items s.ready c.len-self-inside.result v c.self.view_is i len
+pub keep_first-requires-clause-rises : goal.keep_first-requires-clause-rises
+keep_first-requires-clause-rises g c =
+    let P : KeptValue → Type 0 = λ k. SerialsRise (kept_of k.written ++ c.args.changes.now.items) in
+    subst P (sym c.tidy.ensures.same) c.requires.rises
 
-pub returns-in-Err-Doubtful-clause-same : goal.returns-in-Err-Doubtful-clause-same
-returns-in-Err-Doubtful-clause-same g c =
-    let s = c.self.inside in
-    let v = c.args.self.now in
-    let none = c.has_space_for.ensures.none c.if-not-has_space_for.false in
-    let i = idle s.writer s.waiting.items s.ready v c.self.view_is c.self.invariant.counted none c.requires.none in
-    let len : length c.copy_first.new.list.items ≡ c.len-self-inside-in-Err-Doubtful.result = omega arith in
-    batch_shown s.writer s.waiting.items c.copy_first.new.list.items s.ready c.len-self-inside-in-Err-Doubtful.result v c.self.view_is i len
+pub keep_first-requires-clause-space : goal.keep_first-requires-clause-space
+keep_first-requires-clause-space g c =
+    let P : KeptValue → Type 0 = λ k. HasSpaceFor g.N.StoreName.limit k.written.published c.args.count in
+    subst P (sym c.tidy.ensures.same) (c.has_space_for.ensures.space c.if-not-has_space_for.false)
+
+pub returns-clause-same : goal.returns-clause-same
+returns-clause-same g c = c.keep_first.ensures.same ∙ ap (λ (k : KeptValue). k.written) c.tidy.ensures.same

@@ -1,4 +1,4 @@
-use Rattle.std.proofs.Common.{◌≡◌, ◌++◌, ◌-◌, ◌∙◌, List, ap, append_assoc, length, subst, sym, take}
+use Rattle.std.proofs.Common.{◌++◌, ap, subst}
 use mathlib.Core.List.{IsPrefix}
 use Rattle.rs_store.specs.History.{IsLegal}
 use Rattle.rs_store.proofs.Histories.{legal_front}

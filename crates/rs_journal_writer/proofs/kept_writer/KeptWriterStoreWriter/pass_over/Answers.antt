@@ -1,4 +1,4 @@
-use Rattle.std.proofs.Common.{◌≡◌, ◌∷◌, ◌++◌, ◌∙◌, ◌-◌, [], List, ap, arith, drop, refl, subst}
+use Rattle.std.proofs.Common.{◌∷◌, ◌++◌, ◌∙◌, ◌-◌, [], List, ap, arith, drop, refl, subst}
 use Rattle.rs_message.specs.declared.entry.Entry.{Entry}
 use Rattle.rs_store.specs.History.{IsLegal, extended}
 use Rattle.rs_version.specs.Writer.{Written, kept_of}

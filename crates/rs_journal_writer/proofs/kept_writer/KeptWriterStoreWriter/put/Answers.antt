@@ -1,4 +1,4 @@
-use Rattle.std.proofs.Common.{◌≡◌, ◌∙◌, [], ap, arith}
+use Rattle.std.proofs.Common.{◌∙◌, ap}
 use Rattle.rs_journal_writer.specs.Keeping.{KeptValue}
 use Rattle.rs_journal_writer.proofs.Parts.{next_of, none_ready}
 use Rattle.rs_journal_writer.proofs.kept_writer.KeptWriterStoreWriter.put.Goals as goal
