@@ -303,7 +303,7 @@ put_more {most} limit w held all replies refused held1 rest1 w1 more count held2
 
 -- ---- the changes that are left
 
-above_all : (place : ℕ) (es : List Entry) → 0 < place → AreOf place es → AllByRecursion (λ (e : Entry). 0 < e.origin.place) es
+pub above_all : (place : ℕ) (es : List Entry) → 0 < place → AreOf place es → AllByRecursion (λ (e : Entry). 0 < e.origin.place) es
 above_all place [] some of = tt
 above_all place (e ∷ es) some of = ((let same = of.0 in omega (arith, some, same)), above_all place es some of.1)
 

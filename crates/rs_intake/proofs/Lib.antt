@@ -8,3 +8,4 @@ pub mod Causes
 pub mod Writers
 pub mod Sent
 pub mod Ordered
+pub mod Jobs

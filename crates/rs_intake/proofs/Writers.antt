@@ -75,7 +75,7 @@ under_way_same limit places w w' begun same kept ways taken refused u =
     }
 
 -- the changes of one job were put
-put_more : {most : ℕ} (limit places : ℕ) (w w' : WriterValue) (changes : List Entry) (replies : List ReplyValue) (count : ℕ) → w'.first ≡ w.first → w'.received.entries ≡ w.received.entries ++ changes → IsPlaced places (Put changes)
+pub put_more : {most : ℕ} (limit places : ℕ) (w w' : WriterValue) (changes : List Entry) (replies : List ReplyValue) (count : ℕ) → w'.first ≡ w.first → w'.received.entries ≡ w.received.entries ++ changes → IsPlaced places (Put changes)
     → AreOfOneJob changes → AreReplied limit most w.writer changes replies count w'.writer → AreSentTo (place_of_all changes) w.ways replies w'.ways → w'.taken ≡ w.taken + length changes → w'.refused ≡ w.refused + count
     → IsUnderWay limit places w → IsUnderWay limit places w'
 put_more limit places w w' changes replies count begun more there are r to taken refused u =

@@ -1,6 +1,6 @@
 //! What the writer took from the queue.
 
-ghost use Rattle.std.specs.Prelude.{◌≡◌, ◌<◌, ◌∷◌, ◌++◌, List, [], true, IfOk, MatchResult};
+ghost use Rattle.std.specs.Prelude.{◌≡◌, ◌<◌, ◌∷◌, ◌++◌, List, [], true, IfOk, IfSome, MatchOption, MatchResult};
 ghost use Rattle.crossbeam_channel.specs.Claims.{view as known_by};
 ghost use Rattle.crossbeam_channel.specs.Ends.{sends_on, receives_on};
 ghost use Rattle.rs_store.specs.History.{SerialsRise};
@@ -12,7 +12,7 @@ ghost use Rattle.rs_intake_queue.specs.declared.job.Job.{Job};
 
 use crossbeam_channel::Pass;
 use rs_intake_line::LineName;
-use rs_intake_queue::steps::{compare, join, take};
+use rs_intake_queue::steps::{compare, join, take, take_if_any};
 use rs_intake_queue::{Gone, Job, JobReceiver, JobSender, PassView, Patience};
 use std::marker::{Model, PhantomData};
 use std::sync::Wait;
@@ -70,6 +70,17 @@ impl<N: LineName> Taken<N> {
         ensures placed { IfOk result (λ job. IsPlaced N.places job) }
     {
         take(rt, from, &mut self.pass, patience)
+    }
+
+    /// Takes the oldest job, if one is there. It waits for none. `None` also if the receive failed.
+    pub(crate) fn next_if_any<R: Wait>(&mut self, rt: &R, from: &JobReceiver) -> Option<Job>
+        requires { IsQueue N.queue (receives_on from.now) }
+        ensures taken { MatchOption result (self.new ≡ self.old)
+            (λ job. (self.new.entries ≡ self.old.entries ++ entries_in job) × SerialsRise self.new.entries) }
+        ensures ended { IfSome result (λ job. (self.new.ends ≡ self.old.ends ++ ends_of (job ∷ [])) × AreEnds N.places self.new.ends) }
+        ensures placed { IfSome result (λ job. IsPlaced N.places job) }
+    {
+        take_if_any(rt, from, &mut self.pass)
     }
 
     /// Joins a line's pass.

@@ -1,21 +1,26 @@
 //! The ways back to all lines: the writer puts a job, and sends the replies to its line.
 
-ghost use Rattle.std.specs.Prelude.{◌≡◌, ◌+◌, ◌-◌, ◌<◌, ◌≤◌, ◌||◌, ◌∷◌, ◌++◌, [], List, true, false, drop, length, take, vec_capacity, Decides};
+ghost use Rattle.std.specs.Prelude.{◌≡◌, ℕ, ◌+◌, ◌-◌, ◌<◌, ◌≤◌, ◌||◌, ◌∷◌, ◌++◌, [], List, true, false, drop, length, take, vec_capacity, Decides, option_to_list};
+ghost use Rattle.std.specs.List.{AllByRecursion};
 ghost use Rattle.rs_message.specs.Messages.{is_sweep};
 ghost use Rattle.rs_message.specs.declared.entry.Entry.{Entry};
 ghost use Rattle.rs_store.specs.History.{SerialsRise, extended};
 ghost use Rattle.rs_version.specs.Writer.{IsNextOf, IsReadyFor, kept_of};
 ghost use Rattle.rs_intake.specs.declared.ways_back.TheConstants.{MANY_JOBS};
-ghost use Rattle.rs_intake_queue.specs.Changes.{place_of_all};
+ghost use Rattle.rs_intake_queue.specs.Changes.{AreOfOneJob, place_of_all};
+ghost use Rattle.rs_intake_queue.specs.QueueRule.{IsPlaced, entries_of};
+ghost use Rattle.rs_intake.specs.Together.{AreParts, jobs_of};
+ghost use Rattle.rs_intake.specs.Writers.{AreJobsDone};
 ghost use Rattle.rs_intake_line.specs.Done.{AreReplied, IsBehindHeld, IsDone, IsOutcome, IsPut, ReplyValue, is_held};
 ghost use Rattle.rs_intake_line.specs.Sending.{AreSentNext, AreSentTo, AreToPut, ArePut};
 ghost use Rattle.rs_intake_line.specs.Sweeps.{IsKeptFrom};
 ghost use Rattle.rs_intake_queue.specs.declared.job.TheConstants.{MAX_CHANGES};
 
+use crate::together::{Gathered, Part};
 use rs_intake_line::{
     FullnessWriter, LineName, MessageSize, ReplySender, WayEnd, WriterReplies, WriterReply,
 };
-use rs_intake_queue::{Changes, Entries, MAX_CHANGES};
+use rs_intake_queue::{Changes, Entries, Job, MAX_CHANGES};
 use rs_message::Entry;
 use rs_version::StoreWriter;
 use std::alloc::Global;
@@ -77,8 +82,9 @@ fn reply_to_first<N: LineName, S: StoreWriter<N>>(
     requires reserved { (reserved.items ≡ []) × (count ≤ vec_capacity reserved) }
     requires there { count ≤ length rest.old.items }
     requires left { AreToPut N.limit (kept_of (S.written writer.old)) rest.old.items }
-    requires ready { IsReadyFor (S.ready writer.old) (take count rest.old.items) }
-    ensures ready { S.ready writer.new ≡ [] }
+    requires ready { (n : ℕ) × (count ≤ n) × IsReadyFor (S.ready writer.old) (take n rest.old.items) }
+    ensures ready { (n : ℕ) → count ≤ n → IsReadyFor (S.ready writer.old) (take n rest.old.items)
+        → IsReadyFor (S.ready writer.new) (take (n - count) rest.new.items) }
     ensures put { ArePut N.limit S.most_held (S.written writer.old) has_held.old rest.old.items result.0.items result.1 has_held.new rest.new.items
         (S.written writer.new) }
     ensures left { AreToPut N.limit (kept_of (S.written writer.new)) rest.new.items }
@@ -148,6 +154,7 @@ fn put_and_send<N: LineName, S: StoreWriter<N>, W: Wait>(
     requires left { AreToPut N.limit (kept_of (S.written writer.old)) changes.items }
     requires ready { S.ready writer.old ≡ [] }
     ensures ready { S.ready writer.new ≡ [] }
+    ensures few { result ≤ MAX_CHANGES }
     ensures replied { (replies : List ReplyValue) × AreReplied N.limit S.most_held (S.written writer.old) changes.items replies result (S.written writer.new)
         × AreSentNext to.old replies to.new }
 {
@@ -175,6 +182,7 @@ fn put_alone<N: LineName, S: StoreWriter<N>, W: Wait>(
     requires left { AreToPut N.limit (kept_of (S.written writer.old)) (entry ∷ []) }
     requires ready { S.ready writer.old ≡ [] }
     ensures ready { S.ready writer.new ≡ [] }
+    ensures few { result ≤ MAX_CHANGES }
     ensures replied { (replies : List ReplyValue) × AreReplied N.limit S.most_held (S.written writer.old) (entry ∷ []) replies result (S.written writer.new)
         × AreSentNext to.old replies to.new }
 {
@@ -186,6 +194,72 @@ fn put_alone<N: LineName, S: StoreWriter<N>, W: Wait>(
     replies.show(fullness);
     to.send(rt, replies);
     refused
+}
+
+/// Makes a writer ready for all these changes, if there are any.
+fn make_ready_for<N: LineName, S: StoreWriter<N>>(writer: &mut S, changes: &VecDeque<Entry>)
+    requires none { S.ready writer.old ≡ [] }
+    requires left { AreToPut N.limit (kept_of (S.written writer.old)) changes.now.items }
+    ensures same { S.written writer.new ≡ S.written writer.old }
+    ensures ready { IsReadyFor (S.ready writer.new) changes.now.items }
+{
+    if !changes.is_empty() {
+        writer.make_ready(changes, changes.len());
+    }
+}
+
+/// Puts the first of these changes, which is a job of its own, and makes the reply. The second result is 1 if it is refused, else 0.
+fn reply_to_one<N: LineName, S: StoreWriter<N>>(
+    writer: &mut S,
+    rest: &mut VecDeque<Entry>,
+) -> (WriterReplies<N>, u64)
+    requires some { 0 < length rest.old.items }
+    requires left { AreToPut N.limit (kept_of (S.written writer.old)) rest.old.items }
+    requires ready { IsReadyFor (S.ready writer.old) rest.old.items }
+    ensures ready { IsReadyFor (S.ready writer.new) rest.new.items }
+    ensures left { AreToPut N.limit (kept_of (S.written writer.new)) rest.new.items }
+    ensures rest { rest.new.items ≡ drop 1 rest.old.items }
+    ensures some { 0 < length result.0 }
+    ensures refused { result.1 + length rest.new.items ≤ length rest.old.items }
+    ensures replied { AreReplied N.limit S.most_held (S.written writer.old) (take 1 rest.old.items) result.0 result.1 (S.written writer.new) }
+{
+    let Some(entry) = rest.pop_front() else {
+        unreachable!()
+    };
+    // For the proof: this call says that the serial is not 0.
+    let _serial = entry.origin.serial();
+    let reply = reply_to(writer, entry);
+    let refused = reply.refused_count();
+    (WriterReplies::one(reply), refused)
+}
+
+/// Puts the first of these changes, all those of a job, and makes the replies. The second result is how many of them are refused.
+fn reply_to_part<N: LineName, S: StoreWriter<N>>(
+    alloc: Global,
+    writer: &mut S,
+    rest: &mut VecDeque<Entry>,
+    part: Part<N>,
+) -> (WriterReplies<N>, u64)
+    requires some { 0 < part.count }
+    requires there { part.count ≤ length rest.old.items }
+    requires left { AreToPut N.limit (kept_of (S.written writer.old)) rest.old.items }
+    requires ready { IsReadyFor (S.ready writer.old) rest.old.items }
+    ensures ready { IsReadyFor (S.ready writer.new) rest.new.items }
+    ensures left { AreToPut N.limit (kept_of (S.written writer.new)) rest.new.items }
+    ensures rest { rest.new.items ≡ drop part.count rest.old.items }
+    ensures some { 0 < length result.0 }
+    ensures refused { result.1 + length rest.new.items ≤ length rest.old.items }
+    ensures replied { AreReplied N.limit S.most_held (S.written writer.old) (take part.count rest.old.items) result.0 result.1
+        (S.written writer.new) }
+{
+    let count = part.count();
+    if count == 1 {
+        return reply_to_one(writer, rest);
+    }
+    let mut has_held = false;
+    let reserved = part.into_reserved();
+    let (replies, refused) = reply_to_first(writer, rest, &mut has_held, reserved, count);
+    (WriterReplies::new(alloc, replies), refused)
 }
 
 /// So many jobs of one line in a row tell the line that it is alone: no other waits behind a further job of it.
@@ -221,7 +295,7 @@ impl JobRow {
 }
 
 /// The writer's ends of the ways back to the lines, that of place 1 first. A line learns only what is sent by its way back, and
-/// only [`WaysBack::put_job`] sends.
+/// only [`WaysBack::put_job`] and [`WaysBack::put_together`] send.
 #[derive(Drop)]
 pub struct WaysBack<N: LineName> {
     alloc: Global,
@@ -266,6 +340,8 @@ impl<N: LineName> WaysBack<N> {
         requires rises { (before : List Entry) × IsKeptFrom N.limit before (kept_of (S.written writer.old)) × SerialsRise (before ++ changes) }
         requires ready { S.ready writer.old ≡ [] }
         ensures ready { S.ready writer.new ≡ [] }
+        ensures few { result ≤ MAX_CHANGES }
+        ensures changes { AreOfOneJob changes }
         ensures replied { (replies : List ReplyValue) × AreReplied N.limit S.most_held (S.written writer.old) changes replies result (S.written writer.new)
             × AreSentTo (place_of_all changes) self.old.senders.items replies self.new.senders.items }
     {
@@ -297,6 +373,117 @@ impl<N: LineName> WaysBack<N> {
             entries,
             at_once,
         )
+    }
+
+    /// Puts the changes of the first of the jobs that are left, and sends the replies to their line, in one message, and nothing to any other.
+    fn put_part<S: StoreWriter<N>, W: Wait>(
+        &mut self,
+        rt: &W,
+        writer: &mut S,
+        rest: &mut VecDeque<Entry>,
+        part: Part<N>,
+    ) -> u64
+        requires place { (0 < part.place) × (part.place ≤ length self.old.senders.items) }
+        requires some { 0 < part.count }
+        requires there { part.count ≤ length rest.old.items }
+        requires left { AreToPut N.limit (kept_of (S.written writer.old)) rest.old.items }
+        requires ready { IsReadyFor (S.ready writer.old) rest.old.items }
+        ensures ready { IsReadyFor (S.ready writer.new) rest.new.items }
+        ensures left { AreToPut N.limit (kept_of (S.written writer.new)) rest.new.items }
+        ensures rest { rest.new.items ≡ drop part.count rest.old.items }
+        ensures refused { result + length rest.new.items ≤ length rest.old.items }
+        ensures replied { (replies : List ReplyValue) × AreReplied N.limit S.most_held (S.written writer.old) (take part.count rest.old.items)
+            replies result (S.written writer.new) × AreSentTo part.place self.old.senders.items replies self.new.senders.items }
+    {
+        let place = part.place();
+        let is_alone = self.row.add(place);
+        let index = place as usize - 1;
+        let way = &mut self.senders[index];
+        way.set_alone(is_alone);
+        let (replies, refused) = reply_to_part(self.alloc, writer, rest, part);
+        replies.show(&mut self.fullness);
+        way.send(rt, replies);
+        refused
+    }
+
+    /// Puts the changes of these jobs, one job after the other, and sends the replies to each to its line. The result is how many changes are
+    /// refused.
+    fn put_parts<S: StoreWriter<N>, W: Wait>(
+        &mut self,
+        rt: &W,
+        writer: &mut S,
+        parts: VecDeque<Part<N>>,
+        entries: VecDeque<Entry>,
+    ) -> u64
+        requires parts { AreParts parts.items entries.items }
+        requires placed { AllByRecursion (IsPlaced (length self.old.senders.items)) (jobs_of parts.items entries.items) }
+        requires left { AreToPut N.limit (kept_of (S.written writer.old)) entries.items }
+        requires ready { IsReadyFor (S.ready writer.old) entries.items }
+        ensures ready { S.ready writer.new ≡ [] }
+        ensures refused { result ≤ length entries.items }
+        ensures done { AreJobsDone N.limit S.most_held (S.written writer.old) self.old.senders.items (jobs_of parts.items entries.items) result
+            (S.written writer.new) self.new.senders.items }
+    {
+        let mut parts = parts;
+        let mut rest = entries;
+        let mut refused = 0u64;
+        while !parts.is_empty() {
+            let Some(part) = parts.pop_front() else {
+                unreachable!()
+            };
+            refused += self.put_part(rt, writer, &mut rest, part);
+        }
+        refused
+    }
+
+    /// Puts the changes of a job, if it has any, as [`put_job`](WaysBack::put_job) does.
+    fn put_last<S: StoreWriter<N>, W: Wait>(
+        &mut self,
+        rt: &W,
+        writer: &mut S,
+        last: Option<Job>,
+    ) -> u64
+        requires placed { AllByRecursion (IsPlaced (length self.old.senders.items)) (option_to_list last) }
+        requires rises { (before : List Entry) × IsKeptFrom N.limit before (kept_of (S.written writer.old))
+            × SerialsRise (before ++ entries_of (option_to_list last)) }
+        requires ready { S.ready writer.old ≡ [] }
+        ensures ready { S.ready writer.new ≡ [] }
+        ensures few { result ≤ MAX_CHANGES }
+        ensures done { AreJobsDone N.limit S.most_held (S.written writer.old) self.old.senders.items (option_to_list last) result
+            (S.written writer.new) self.new.senders.items }
+    {
+        match last {
+            Some(Job::Put(changes)) => self.put_job(rt, writer, changes, MAX_CHANGES),
+            Some(Job::End(_)) | None => 0,
+        }
+    }
+
+    /// Makes the writer ready for the changes of these jobs all at once. Then it puts them, one job after the other, and sends the replies
+    /// to each to its line, in one message. A job for which memory was refused is put alone, behind the others. The result is how many
+    /// changes are refused.
+    pub(crate) fn put_together<S: StoreWriter<N>, W: Wait>(
+        &mut self,
+        rt: &W,
+        writer: &mut S,
+        jobs: Gathered<N>,
+    ) -> u64
+        requires placed { AllByRecursion (IsPlaced (length self.old.senders.items)) jobs.jobs }
+        requires rises { (before : List Entry) × IsKeptFrom N.limit before (kept_of (S.written writer.old))
+            × SerialsRise (before ++ entries_of jobs.jobs) }
+        requires ready { S.ready writer.old ≡ [] }
+        ensures ready { S.ready writer.new ≡ [] }
+        ensures done { AreJobsDone N.limit S.most_held (S.written writer.old) self.old.senders.items jobs.jobs result
+            (S.written writer.new) self.new.senders.items }
+    {
+        let (parts, entries, last) = jobs.into_parts();
+        make_ready_for(writer, &entries);
+        let refused = self.put_parts(rt, writer, parts, entries);
+        refused + self.put_last(rt, writer, last)
+    }
+
+    /// The allocator for what is taken.
+    pub(crate) fn alloc(&self) -> Global {
+        self.alloc
     }
 
     /// What is left of each way back. The lines learn that nothing more comes. Takes no memory.

@@ -14,6 +14,7 @@ ghost use Rattle.rs_intake_queue.specs.declared.job.TheConstants.{MAX_CHANGES};
 ghost use Rattle.rs_intake_line.specs.declared.reply.TheConstants.{FEW_REPLIES};
 
 use crate::cause::Cause;
+use crate::gathering::gather;
 use crate::taken::Taken;
 use crate::ways_back::WaysBack;
 use rs_intake_line::{FEW_REPLIES, LineName, WayEnd};
@@ -111,7 +112,7 @@ impl<N: LineName, S: StoreWriter<N>> Ended<N, S> {
 }
 
 /// Whether no further job may be taken: at least so many entries were, or one more job could have more than can be counted.
-fn has_most(taken: u64, most: u64) -> bool
+pub(crate) fn has_most(taken: u64, most: u64) -> bool
     ensures { MatchBool result ((most ≤ taken) ⊎ (2 ^ 64 ≤ taken + MAX_CHANGES)) ((taken < most) × (taken + MAX_CHANGES < 2 ^ 64)) }
 {
     taken >= most || taken > u64::MAX - MAX_CHANGES as u64
@@ -141,7 +142,7 @@ fn show<N: LineName, S: StoreWriter<N>>(meter: &WriterMeter, writer: &S, taken: 
     }
 }
 
-/// A writer at its queue. It takes one job at a time. Contracts see what it kept when it began, what it published and holds, what it took,
+/// A writer at its queue. It takes one job at a time, or some that wait. Contracts see what it kept when it began, what it published and holds, what it took,
 /// what it sent by the ways back, and how many entries it took and refused.
 ///
 /// At every moment what it keeps came of what it kept when it began by the outcomes of just what it took, and these outcomes were sent to
@@ -227,7 +228,11 @@ impl<N: LineName, S: StoreWriter<N>> JobWriter<N, S> {
     /// Waits for the oldest job, and takes it. It puts its changes, one after the other, and sends the job's line a reply to each. Behind a
     /// change that is held the others of the job are refused, or held, too.
     ///
-    /// The result is why no step can follow, if none can: each place has ended, with this job; or no job was taken, since at least `most`
+    /// If the writer is better made ready at once, it takes the jobs that are there behind the first, too: as long as they have at most
+    /// [`MAX_TOGETHER`](crate::MAX_TOGETHER) changes with one more job, and up to an End. It makes the writer ready for all of them together,
+    /// and then puts and answers one job after the other.
+    ///
+    /// The result is why no step can follow, if none can: each place has ended, with these jobs; or no job was taken, since at least `most`
     /// entries were taken before, or so many that one more job could have more than can be counted, or since the receive failed.
     pub fn step<W: Wait>(&mut self, rt: &W, most: u64) -> Option<Cause>
         ensures step { IsStepBefore N.limit S.most_held N.places result self.old self.new }
@@ -238,6 +243,9 @@ impl<N: LineName, S: StoreWriter<N>> JobWriter<N, S> {
     {
         if has_most(self.taken, most) {
             return Some(Cause::MostTaken);
+        }
+        if self.writer.makes_ready_at_once() {
+            return self.step_together(rt, most);
         }
         match self.received.next(rt, &self.receiver, &mut self.patience) {
             Ok(Job::Put(changes)) => {
@@ -257,6 +265,44 @@ impl<N: LineName, S: StoreWriter<N>> JobWriter<N, S> {
                 }
             }
             Err(gone) => Some(Cause::QueueGone(gone)),
+        }
+    }
+
+    /// The same for a writer that is made ready at once, before as many are taken as may be: it takes further jobs that are there, too, and
+    /// makes the writer ready for all of them together.
+    fn step_together<W: Wait>(&mut self, rt: &W, most: u64) -> Option<Cause>
+        requires few { self.old.taken + MAX_CHANGES < 2 ^ 64 }
+        ensures step { IsStepBefore N.limit S.most_held N.places result self.old self.new }
+        ensures cause { IfSome result (λ cause. IsCause N.places most self.new.received cause) }
+        ensures more { IfNone result (HaveEnded N.places self.new.received.ends → HaveEnded N.places self.old.received.ends) }
+        ensures under_way { IsUnderWay N.limit N.places self.new }
+    {
+        let gathered = gather(
+            rt,
+            self.ways.alloc(),
+            &mut self.received,
+            &self.receiver,
+            &mut self.patience,
+            self.taken,
+            most,
+        );
+        let jobs = match gathered {
+            Ok(jobs) => jobs,
+            Err(gone) => return Some(Cause::QueueGone(gone)),
+        };
+        let has_end = jobs.has_end();
+        self.taken += jobs.len() as u64;
+        let count = self.ways.put_together(rt, &mut self.writer, jobs);
+        self.refused += count;
+        show(&self.meter, &self.writer, self.taken);
+        if !has_end {
+            return None;
+        }
+        self.left -= 1;
+        if self.left == 0 {
+            Some(Cause::AllEnded)
+        } else {
+            None
         }
     }
 

@@ -1,6 +1,6 @@
 //! The steps on the queue, each of which keeps its rule.
 
-ghost use Rattle.std.specs.Prelude.{◌≡◌, List, [], true, false, MatchResult};
+ghost use Rattle.std.specs.Prelude.{◌≡◌, List, [], true, false, MatchOption, MatchResult};
 ghost use Rattle.crossbeam_channel.specs.Claims.{view, IsSeatAt};
 ghost use Rattle.crossbeam_channel.specs.Ends.{sends_on, receives_on};
 ghost use Rattle.rs_intake_queue.specs.QueueRule.{job_more, IsAbove, IsOf, Takes, one_line_more, new_line, one_line_less, Balances};
@@ -9,7 +9,7 @@ ghost use Rattle.rs_intake_queue.specs.declared.job.Job.{Job};
 use crate::job::Job;
 use crate::rule::{JobReceiver, JobSender, LinePass, PassView, QueueRule, Sending, Taking};
 use crate::waiting;
-use crate::waiting::{Gone, Patience, receive};
+use crate::waiting::{Gone, Patience, receive, receive_if_any};
 use crossbeam_channel::Pass;
 use std::sync::Wait;
 
@@ -43,6 +43,20 @@ pub fn take<R: Wait>(
     ensures taken { MatchResult result (λ job. Takes (view pass.old) job (view pass.new)) (λ _. view pass.new ≡ view pass.old) }
 {
     receive::<Job, PassView, QueueRule, Taking, R>(rt, from, pass, patience)
+}
+
+/// Takes the oldest job, if one is there. It waits for none. `None` also if the receive failed, as the next [`take`] then does, too.
+pub fn take_if_any<R: Wait>(
+    rt: &R,
+    from: &JobReceiver,
+    pass: &mut Pass<Job, PassView>,
+) -> Option<Job>
+    requires channel { IsSeatAt (receives_on from.now) pass.old }
+    requires takes { ((view pass.old).takes ≡ true) × ((view pass.old).sends ≡ false) }
+    ensures channel { IsSeatAt (receives_on from.now) pass.new }
+    ensures taken { MatchOption result (view pass.new ≡ view pass.old) (λ job. Takes (view pass.old) job (view pass.new)) }
+{
+    receive_if_any::<Job, PassView, QueueRule, Taking, R>(rt, from, pass)
 }
 
 /// Cuts the pass of the next place off the writer's.

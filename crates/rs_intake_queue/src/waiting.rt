@@ -143,3 +143,21 @@ pub fn receive<T: Drop, V, P: Protocol<T, V>, M: Outcome<T, V> + Lesson<T, V>, R
         Err(failure) => Err(Gone::of_receive(failure)),
     }
 }
+
+/// As `try_recv_as`: it waits for nothing. `None` if no message is there, or the receive failed, as the next [`receive`] then does, too.
+pub fn receive_if_any<T: Drop, V, P: Protocol<T, V>, M: Outcome<T, V> + Lesson<T, V>, R: Wait>(
+    rt: &R,
+    from: &RuledReceiver<T, V, P>,
+    pass: &mut Pass<T, V>,
+) -> Option<T>
+    requires channel { IsSeatAt (receives_on from.now) pass.old }
+    requires rule { Pops P.holds pass.old.id (view pass.old) (M.then (view pass.old))
+        × Learns P.holds pass.old.id (view pass.old) (M.fact (view pass.old)) }
+    ensures channel { IsSeatAt (receives_on from.now) pass.new × (pass.new.id ≡ pass.old.id) }
+    ensures rule { MatchOption result (view pass.new ≡ view pass.old) (λ x. M.then (view pass.old) x (view pass.new)) }
+{
+    match from.try_recv_as::<M, R>(rt, pass) {
+        Ok(message) => Some(message),
+        Err(_) => None,
+    }
+}

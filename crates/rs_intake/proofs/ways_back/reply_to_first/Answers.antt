@@ -1,15 +1,24 @@
-use Rattle.std.proofs.Common.{◌≡◌, ◌∷◌, [], ℕ, ◌-◌, length, take, ap, sym, subst, length-append, arith}
+use Rattle.std.proofs.Common.{◌≡◌, ◌∷◌, [], ℕ, ◌-◌, length, take, ap, subst, length-append, arith}
 use Rattle.rs_version.specs.Writer.{IsReadyFor}
-use Rattle.rs_intake.proofs.Done.{left_less, left_rises, ready_left, ready_next, ready_none, put_more, put_none, put_one, refused_one}
+use Rattle.rs_intake.proofs.Done.{left_less, left_rises, ready_left, ready_next, put_more, put_none, put_one, refused_one}
 use Rattle.rs_intake.proofs.ways_back.reply_to_first.Goals as goal
 
 pub loop-rest-init : goal.loop-rest-init
 loop-rest-init g c =
     let none = ap length c.requires.reserved.0 in
-    let P : ℕ → Type 0 = λ n. IsReadyFor (g.S.StoreWriter.ready c.args.writer.now) (take (c.args.count - n) c.args.rest.now.items) in
-    let Q : ℕ → Type 0 = λ n. IsReadyFor (g.S.StoreWriter.ready c.args.writer.now) (take n c.args.rest.now.items) in
-    let whole : c.args.count - 0 ≡ c.args.count = omega arith in
-    (c.requires.left, put_none _ _ _ _ _ c.requires.reserved.0, omega (arith, none), omega arith, c.requires.reserved.1, omega (arith, none), subst P (sym none) (subst Q (sym whole) c.requires.ready))
+    let ready = g.S.StoreWriter.ready c.args.writer.now in
+    let rest = c.args.rest.now.items in (
+      c.requires.left,
+      put_none _ _ _ _ _ c.requires.reserved.0,
+      omega (arith, none),
+      omega arith,
+      c.requires.reserved.1,
+      omega (arith, none),
+      (λ n more r.
+          let P : ℕ → Type 0 = λ k. IsReadyFor ready (take k rest) in
+          let whole : n ≡ n - length c.args.reserved.items = omega (arith, none) in
+          subst P whole r),
+    )
 
 pub reply_to_next-reply-requires-clause-rises : goal.reply_to_next-reply-requires-clause-rises
 reply_to_next-reply-requires-clause-rises g c =
@@ -20,7 +29,9 @@ reply_to_next-reply-requires-clause-rises g c =
 pub reply_to_next-reply-requires-clause-next : goal.reply_to_next-reply-requires-clause-next
 reply_to_next-reply-requires-clause-next g c =
     let test = c.loop-rest-test.true in
-    ready_next (g.S.StoreWriter.ready c.loop-rest.writer) (c.args.count - length c.loop-rest.replies.items) c.loop-rest.rest.items _ c.in-Some.entry (omega (arith, test)) c.in-Some.ensures.items c.loop-rest.invariant.6
+    let r = c.requires.ready in
+    let more = r.1 in
+    ready_next (g.S.StoreWriter.ready c.loop-rest.writer) (r.0 - length c.loop-rest.replies.items) c.loop-rest.rest.items _ c.in-Some.entry (omega (arith, test, more)) c.in-Some.ensures.items (c.loop-rest.invariant.6 r.0 more r.2)
 
 pub loop-rest-preserved : goal.loop-rest-preserved
 loop-rest-preserved g c =
@@ -45,12 +56,15 @@ loop-rest-preserved g c =
       omega (arith, m, sum, few, count, one),
       omega (arith, m, sum, reserved, capacity),
       omega (arith, m, sum, test),
-      ready_left (g.S.StoreWriter.ready c.loop-rest.writer) (g.S.StoreWriter.ready c.reply_to_next-reply.new.writer) (c.args.count - length c.loop-rest.replies.items) _
-          c.loop-rest.rest.items _ c.in-Some.entry (omega (arith, m, sum, test)) first e.ready c.loop-rest.invariant.6,
+      (λ n more r. ready_left (g.S.StoreWriter.ready c.loop-rest.writer) (g.S.StoreWriter.ready c.reply_to_next-reply.new.writer) (n - length c.loop-rest.replies.items) _
+          c.loop-rest.rest.items _ c.in-Some.entry (omega (arith, m, sum, test, more)) first e.ready (i.6 n more r)),
     )
 
 pub returns-clause-ready : goal.returns-clause-ready
-returns-clause-ready g c =
+returns-clause-ready g c = λ n more r.
     let i = c.loop-rest.invariant in
     let test = c.loop-rest-test.false in
-    ready_none (g.S.StoreWriter.ready c.loop-rest.writer) (c.args.count - length c.loop-rest.replies.items) c.loop-rest.rest.items (omega (arith, test)) i.6
+    let few = i.5 in
+    let P : ℕ → Type 0 = λ k. IsReadyFor (g.S.StoreWriter.ready c.loop-rest.writer) (take (n - k) c.loop-rest.rest.items) in
+    let all : length c.loop-rest.replies.items ≡ c.args.count = omega (arith, test, few) in
+    subst P all (i.6 n more r)

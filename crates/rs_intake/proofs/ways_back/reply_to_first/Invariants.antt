@@ -1,4 +1,4 @@
-use Rattle.std.proofs.Common.{◌≡◌, ◌+◌, ◌-◌, ◌≤◌, length, take}
+use Rattle.std.proofs.Common.{◌≡◌, ℕ, ◌+◌, ◌-◌, ◌≤◌, length, take}
 use Rattle.std.specs.Prelude.{vec_capacity}
 use Rattle.rs_version.specs.Writer.{IsReadyFor, kept_of}
 use Rattle.rs_intake_line.specs.Sending.{AreToPut, ArePut}
@@ -11,7 +11,8 @@ invariant-loop-rest g l = AreToPut g.N.StoreName.limit (kept_of (g.S.StoreWriter
     × (l.refused ≤ length l.replies.items)
     × (l.count ≤ vec_capacity l.replies)
     × (length l.replies.items ≤ l.count)
-    × IsReadyFor (g.S.StoreWriter.ready l.writer) (take (l.count - length l.replies.items) l.rest.items)
+    × ((n : ℕ) → l.count ≤ n → IsReadyFor (g.S.StoreWriter.ready l.fn.writer) (take n l.fn.rest.items)
+    → IsReadyFor (g.S.StoreWriter.ready l.writer) (take (n - length l.replies.items) l.rest.items))
 
 abbrev pub decreases-loop-rest : goal.decreases-loop-rest
 decreases-loop-rest g l = length l.rest.items

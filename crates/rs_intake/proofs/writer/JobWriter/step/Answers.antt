@@ -4,6 +4,7 @@ use Rattle.rs_intake.specs.Causes.{HaveEnded}
 use Rattle.rs_intake.specs.Writers.{WriterValue}
 use Rattle.rs_intake.proofs.Causes.{all_ended, few_ends, none_to_end}
 use Rattle.rs_intake.proofs.Writers.{ended_cause, job_put, job_rises, last_end, more_to_end, no_cause, no_end, none_asked, one_end, refused_few, under_way_same}
+use Rattle.rs_intake.proofs.Jobs.{step_end, step_last, step_more, step_put}
 use Rattle.rs_intake.proofs.writer.JobWriter.step.Goals as goal
 use Rattle.rs_intake.proofs.writer.JobWriter.step.Goals.{then-self-eq0, else-self-eq0}
 
@@ -94,4 +95,21 @@ returns-after-self-eq0-clause-more g c =
       | else-self-eq0 w ↦
           let left = w.if-self-eq0.false in
           more_to_end g.N.LineName.places c.args.self.now.received.ends c.next.new.self.ends _ w.result-is (λ ended. let whole = none_to_end g.N.LineName.places c.next.new.self.ends e.1 ended in absurd (omega (arith, more, few, left, all, whole)))
+    ]
+
+pub returns-in-Ok-Put-clause-step : goal.returns-in-Ok-Put-clause-step
+returns-in-Ok-Put-clause-step g c =
+    let d = c.put_job-count.ensures.replied in
+    let e = c.in-Ok-Put.ensures in
+    step_put _ g.N.StoreName.limit g.N.LineName.places _ c.args.self.now _ _ c.in-Ok-Put.changes c.len.result c.put_job-count.result c.self.view_is refl c.in-Ok-Put.field-0-is e.taken.0 e.ended.0 e.placed c.len.ensures.changes d.0 d.1 d.2 c.len.ensures.len refl refl
+
+pub returns-after-self-eq0-clause-step : goal.returns-after-self-eq0-clause-step
+returns-after-self-eq0-clause-step g c =
+    let i = c.self.inside in
+    let e = c.in-Ok-End.ensures in
+    let after : WriterValue = record { first = kept_of (g.S.StoreWriter.written i.began.value); writer = g.S.StoreWriter.written i.writer; received = c.next.new.self; ways = i.ways.senders.items; taken = i.taken; refused = i.refused } in
+    let s = step_end g.S.StoreWriter.most_held g.N.StoreName.limit g.N.LineName.places _ c.args.self.now after _ _ c.self.view_is refl c.in-Ok-End.field-0-is e.taken.0 e.ended.0 e.placed refl refl refl refl in
+    elim c.if-self-eq0.branch [
+      | then-self-eq0 w ↦ step_last g.N.StoreName.limit g.S.StoreWriter.most_held g.N.LineName.places c.args.self.now after _ w.result-is s
+      | else-self-eq0 w ↦ step_more g.N.StoreName.limit g.S.StoreWriter.most_held g.N.LineName.places c.args.self.now after _ w.result-is s
     ]
