@@ -1,25 +1,28 @@
 //! Submitting to the writer.
 
-ghost use Rattle.std.specs.Prelude.{◌≡◌, ◌≢◌, ◌+◌, ◌++◌, ◌∷◌, ◌⊎◌, [], false, Err, IfErr, IfOk};
+ghost use Rattle.std.specs.Prelude.{◌≡◌, ◌≢◌, ◌≤◌, ◌+◌, ◌++◌, ◌∷◌, ◌⊎◌, [], false, Err, IfErr, IfOk};
 ghost use Rattle.rs_message.specs.Messages.{is_sweep};
 ghost use Rattle.rs_message.specs.declared.fault.SubmitFault.TheVariants.{Closed, Strange};
 ghost use Rattle.rs_store.specs.History.{IsLegal};
 ghost use Rattle.rs_version.specs.Receipts.{StandsAt};
 ghost use Rattle.rs_intake_queue.specs.Changes.{entry_at};
+ghost use Rattle.rs_intake_queue.specs.declared.job.TheConstants.{MAX_CHANGES};
 ghost use Rattle.rs_intake_line.specs.Lines.{AddsAtMost, IsAheadAfter, IsOther, next_serial};
 ghost use Rattle.rs_intake_line.specs.Refusals.{IsFaultOfReply, IsRefused, fault_for};
 
 use crate::line::SeatLine;
 use crate::name::LineName;
 use crate::reply::WriterReply;
+use crate::sizes::JobSizes;
 use rs_message::{Entry, Operation, SubmitFault, is_same};
 use rs_version::{PutFault, Receipt};
 use std::marker::PhantomData;
 use std::sync::Wait;
 
-/// The way to the writer, for all lines. It holds nothing: a sender here would keep the queue open when all lines are gone.
+/// The way to the writer, for all lines. It holds no sender, which would keep the queue open when all lines are gone.
 #[derive(Drop)]
 pub struct Intake<N: LineName> {
+    sizes: JobSizes,
     of: PhantomData<N>,
 }
 
@@ -68,7 +71,23 @@ pub fn read_reply<N: LineName>(
 impl<N: LineName> Intake<N> {
     /// The way to the writer of this name.
     pub fn new() -> Intake<N> {
-        Intake { of: PhantomData }
+        Intake {
+            sizes: JobSizes::new(),
+            of: PhantomData,
+        }
+    }
+
+    /// How many changes a line should have ahead at most ([`expect`](SeatLine::expect)): all that it may, or fewer while other clients wait for
+    /// the replies to theirs.
+    pub fn most_ahead(&self) -> usize
+        ensures { result ≤ MAX_CHANGES }
+    {
+        self.sizes.most()
+    }
+
+    /// Says that a line sends these changes as a job, for those that ask [`most_ahead`](Intake::most_ahead).
+    pub fn note_job(&self, changes: &Vec<Operation>) {
+        self.sizes.note_job(changes);
     }
 
     /// Hands the operation, which is no Sweep, to the writer under the line's next serial, and waits for the receipt. The serial is
@@ -107,6 +126,7 @@ impl<N: LineName> Intake<N> {
         ensures legal { IfOk result (λ r. IsLegal N.limit r.told) }
         ensures ahead { IsAheadAfter line.old.ahead operation line.new.ahead }
     {
+        self.sizes.note_submit(line.ahead_count(), &operation);
         let entry = line.send(rt, operation)?;
         match line.receive(rt) {
             Some(reply) => read_reply(reply, &entry),

@@ -14,6 +14,7 @@ mod intake;
 mod line;
 mod name;
 mod reply;
+mod sizes;
 
 pub use fullness::{Fullness, FullnessWriter, Lack};
 pub use intake::{Intake, read_reply};

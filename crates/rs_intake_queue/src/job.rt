@@ -8,9 +8,9 @@ use rs_message::Entry;
 use std::marker::Model;
 
 /// The most changes of one job.
-pub const MAX_CHANGES: usize = 64;
+pub const MAX_CHANGES: usize = 256;
 
-const _: () = prove!(MAX_CHANGES == 64);
+const _: () = prove!(MAX_CHANGES == 256);
 
 /// Entries in their order. One alone takes no block of memory.
 #[derive(Debug, Drop)]

@@ -17,7 +17,6 @@ ghost use Rattle.rs_store.specs.History.{IsLegal};
 use crate::counting::{change_of, count_change, count_filter};
 use crate::seats::{Reads, Seats};
 use rs_intake_line::{Intake, LineEnd, LineName, SeatLine};
-use rs_intake_queue::MAX_CHANGES;
 use rs_message::{Found, Operation, SubmitFault};
 use rs_metrics::FilterOutcome;
 use rs_places_steps::{LineGate, StoreGate};
@@ -175,9 +174,9 @@ impl<N: LineName, R: Wait + Copy> Gate for SharedGate<N, R> {
 
     ghost most = { MAX_CHANGES };
 
-    /// As many as go in one job.
+    /// As many as go in one job, or fewer while other clients wait for the replies to their changes.
     fn most_expected(&self) -> usize {
-        MAX_CHANGES
+        self.intake.most_ahead()
     }
 
     /// While the writer's last jobs were all of this line, and fewer than two of its jobs are ahead.
@@ -189,6 +188,7 @@ impl<N: LineName, R: Wait + Copy> Gate for SharedGate<N, R> {
     /// packet of each lies whole in the buffer, so its change is submitted, unless the session ends first. No clause says so. A change that
     /// is not submitted may be an entry, like any publication that was not acknowledged.
     fn expect(&mut self, changes: Vec<Operation>) {
+        self.intake.note_job(&changes);
         self.line.expect(&self.rt, changes);
     }
 

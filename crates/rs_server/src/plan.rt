@@ -53,7 +53,7 @@ pub(crate) fn plan<G: Gate, C: Clock>(
         → AreChanges planned.new.items (G.pending (gate_of session.new)) }
 {
     let most = session.most_expected();
-    if !planned.is_empty() && !takes_more(session, most) {
+    if !planned.is_empty() && !takes_more(session, most, planned, buffered) {
         return Ok(());
     }
     plan_first(alloc, buffered, planned, clock, most >= least)?;
@@ -64,10 +64,20 @@ pub(crate) fn plan<G: Gate, C: Clock>(
     Ok(())
 }
 
-/// Whether the gate, which takes `most` changes at once, takes more now: it has none, or no more than a batch and runs ahead.
-fn takes_more<G: Gate>(session: &Session<G>, most: usize) -> bool {
+/// Whether the gate, which takes `most` changes at once, is to be told of more now: it has none; or no more than a batch, it runs ahead, and
+/// there may be more of what is planned or buffered.
+fn takes_more<G: Gate>(
+    session: &Session<G>,
+    most: usize,
+    planned: &VecDeque<Incoming>,
+    buffered: &BytesMut,
+) -> bool {
     let pending = session.pending_count();
-    pending == 0 || (pending <= batch(most) && session.runs_ahead())
+    if pending == 0 {
+        return true;
+    }
+    let has_more = planned.len() > pending || !buffered.is_empty();
+    has_more && pending <= batch(most) && session.runs_ahead()
 }
 
 /// Plans the next batch and announces its changes, behind those that are pending. If none are, there have to be `least` of them. Nothing
@@ -92,7 +102,7 @@ fn plan_batch<G: Gate, C: Clock>(
     ensures pending { AreChanges planned.old.items (G.pending (gate_of session.old))
         → AreChanges planned.new.items (G.pending (gate_of session.new)) }
 {
-    if !takes_more(session, most) {
+    if !takes_more(session, most, planned, buffered) {
         return;
     }
     let through = session.pending_count().saturating_add(batch(most));

@@ -150,9 +150,9 @@ fn replies_that_are_not_taken_hold_up_no_other(rt: HostRuntime) -> Result<(), Fa
         writing: Writing::All,
     };
     let ran = run(rt, setup)?;
-    assert!(rt; have_outcomes(&ran, (65, &[(1, 0), (66, 0)]), (1, &[(65, 0)])));
+    assert!(rt; have_outcomes(&ran, (257, &[(1, 0), (258, 0)]), (1, &[(257, 0)])));
     assert!(rt; !misses_replies(&ran));
-    assert!(rt; has_totals(&ran, 66, 0, 66) && is_settled(&ran, 66));
+    assert!(rt; has_totals(&ran, 258, 0, 258) && is_settled(&ran, 258));
     Ok(())
 }
 
@@ -168,7 +168,7 @@ fn a_line_is_handed_on_without_a_writer(rt: HostRuntime) -> Result<(), Fail> {
     };
     for _ in 0..TRIES {
         let ran = run(rt, setup)?;
-        if have_outcomes(&ran, (65, &[(0, 42), (0, 44)]), (1, &[(0, 44)])) {
+        if have_outcomes(&ran, (257, &[(0, 42), (0, 44)]), (1, &[(0, 44)])) {
             assert!(rt; misses_replies(&ran));
             return Ok(());
         }

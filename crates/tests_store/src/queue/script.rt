@@ -12,7 +12,7 @@ use std::alloc::Global;
 pub(crate) const SETS: u32 = 100;
 
 /// How many changes the first place of `Unread` announces, and the first of the steps that say which.
-const UNREAD: (u32, u32) = (64, 10);
+const UNREAD: (u32, u32) = (256, 10);
 
 /// How often a place of `Beside` reads meanwhile.
 const READS: u32 = 500;
