@@ -1,3 +1,4 @@
 pub mod Gates
+pub mod Kept
 pub mod Store
 pub mod Writing

@@ -1,10 +1,10 @@
 //! A whole store: its writer on a thread of its own, and its clients, each with a line of its own, from the first connection to the
 //! settlement.
 
-ghost use Rattle.std.specs.Prelude.{◌≡◌, IfOk, IfSome, [], All, List, length, map};
+ghost use Rattle.std.specs.Prelude.{◌≡◌, ◌≤◌, IfOk, IfSome, [], All, List, length, map, vec_capacity};
 ghost use Rattle.rs_message.specs.declared.entry.Entry.{Entry};
 ghost use Rattle.rs_places.specs.Gates.{handed_on};
-ghost use Rattle.rs_places.specs.Store.{IsRunTo, IsStoreRun, gates_of};
+ghost use Rattle.rs_places.specs.Store.{IsRunTo, IsStoreRun, gates_of, new_gates};
 ghost use Rattle.rs_places.specs.Writing.{HasWritten};
 ghost use Rattle.rs_version.specs.First.{AreOwn, first_of};
 ghost use Rattle.rs_version.specs.Writer.{kept_of};
@@ -13,7 +13,7 @@ use crate::seats::Seats;
 use crate::settling::settle_run;
 use crate::shared_gate::SharedGate;
 use rs_intake::{BlankQueue, Cause, Ended, Queue, run_writer};
-use rs_intake_line::{Intake, LineName, SeatLine};
+use rs_intake_line::{Intake, LineEnd, LineName, SeatLine};
 use rs_message::Found;
 use rs_places_pool::{Runner, Watch};
 use rs_places_steps::{FreeGate, FreeTurn, PlacesEnd, StoreFault, Turn, run_places};
@@ -214,8 +214,136 @@ where
     run_named::<Brand, T, H, W>(rt, alloc, blank, given, queue, turns, runner)
 }
 
+/// Space for what a run leaves, so that nothing is lost at its end.
+#[derive(Drop)]
+struct EndSpace<N: LineName, T> {
+    lines: Vec<LineEnd<N>>,
+    turns: Vec<T>,
+}
+
+/// What the writer and the clients of a store work with.
+#[derive(Drop)]
+struct Opened<N: LineName, T, H: Wait + Copy> {
+    queue: Queue<N>,
+    gates: Vec<FreeGate<SharedGate<N, H>>>,
+    space: EndSpace<N, T>,
+}
+
+/// Opens the queue, and a gate for each of its lines.
+fn open_lines<N: LineName, T: Drop, H: Wait + Copy>(
+    rt: H,
+    alloc: Global,
+    seats: Vec<Seat<N>>,
+    queue: BlankQueue,
+) -> Result<Opened<N, T, H>, StoreFault>
+    requires { (queue.name ≡ N.queue) × (queue.places ≡ N.places) }
+    ensures gates { IfOk result (λ o. (known : List Entry) → All (λ seat. seat ≡ known) seats.items
+        → o.gates.items ≡ new_gates known N.places) }
+    ensures empty { IfOk result (λ o. (o.space.lines.items ≡ []) × (o.space.turns.items ≡ [])) }
+    ensures capacity { IfOk result (λ o. (length o.gates.items ≤ vec_capacity o.space.lines)
+        × (length o.gates.items ≤ vec_capacity o.space.turns)) }
+{
+    let (intake, lines, queue) = queue.open::<N>()?;
+    let gates = open_gates(rt, alloc, intake, seats, lines)?;
+    let lines = Vec::with_capacity(alloc, gates.len())?;
+    let turns = Vec::with_capacity(alloc, gates.len())?;
+    Ok(Opened {
+        queue,
+        gates,
+        space: EndSpace { lines, turns },
+    })
+}
+
+/// What the clients of a store work with once its writer runs.
+struct Started<N: LineName, S: StoreWriter<N>, T, H: Wait + Copy> {
+    writing: WriterThread<N, S>,
+    gates: Vec<FreeGate<SharedGate<N, H>>>,
+    space: EndSpace<N, T>,
+}
+
+/// Opens queue and gates, and starts the writer's thread.
+fn start_run<
+    N: LineName + Send + Sync + 'static,
+    S: StoreWriter<N> + Send + 'static,
+    T: Drop,
+    H: Threads + Wait + Copy + Send + Sync + 'static,
+>(
+    rt: H,
+    alloc: Global,
+    writer: S,
+    seats: Vec<Seat<N>>,
+    queue: BlankQueue,
+) -> Result<Started<N, S, T, H>, StoreFault>
+    requires own { AreOwn (kept_of (S.written writer)) }
+    requires ready { S.ready writer ≡ [] }
+    requires queue { (queue.name ≡ N.queue) × (queue.places ≡ N.places) }
+    ensures began { IfOk result (λ s. s.writing.promise.began.value ≡ writer) }
+    ensures gates { IfOk result (λ s. (known : List Entry) → All (λ seat. seat ≡ known) seats.items
+        → s.gates.items ≡ new_gates known N.places) }
+    ensures empty { IfOk result (λ s. (s.space.lines.items ≡ []) × (s.space.turns.items ≡ [])) }
+    ensures capacity { IfOk result (λ s. (length s.gates.items ≤ vec_capacity s.space.lines)
+        × (length s.gates.items ≤ vec_capacity s.space.turns)) }
+{
+    // Before any thread starts, so that nothing is lost.
+    let Opened {
+        queue,
+        gates,
+        space,
+    } = open_lines::<N, T, H>(rt, alloc, seats, queue)?;
+    match start_writer(rt, queue, writer) {
+        Some(writing) => Ok(Started {
+            writing,
+            gates,
+            space,
+        }),
+        None => Err(StoreFault::NoThread),
+    }
+}
+
+/// Serves the clients of a store whose writer runs, waits for its end, and settles.
+fn serve_run<
+    N: LineName + Send + Sync + 'static,
+    S: StoreWriter<N> + Send + 'static,
+    T: Turn + Send + Drop + 'static,
+    H: Threads + Wait + Copy + Send + Sync + 'static,
+    W: Watch<T::In> + Send + Sync + Drop + 'static,
+>(
+    rt: H,
+    alloc: Global,
+    started: Started<N, S, T, H>,
+    turns: Vec<FreeTurn<T>>,
+    runner: Runner<W>,
+) -> Result<(StoreEnd<T>, S), StoreFault>
+where
+    T::In: Send + 'static,
+    T::Out: Send + 'static,
+    T::Time: Send + 'static,
+    requires own { AreOwn (kept_of (S.written started.writing.promise.began.value)) }
+    requires gates { started.gates.items ≡ new_gates (kept_of (S.written started.writing.promise.began.value)) N.places }
+    requires empty { (started.space.lines.items ≡ []) × (started.space.turns.items ≡ []) }
+    requires capacity { (length started.gates.items ≤ vec_capacity started.space.lines)
+        × (length started.gates.items ≤ vec_capacity started.space.turns) }
+    requires turns { N.places ≡ length turns.items }
+    ensures run { IfOk result (λ end. IsRunTo S.most_held N.limit N.places (kept_of (S.written started.writing.promise.began.value))
+        (map T.connections turns.items) (map T.connections end.0.turns.items) (S.written end.1) end.0.version end.0.changes end.0.cause) }
+    ensures idle { IfOk result (λ end. S.ready end.1 ≡ []) }
+{
+    let Started {
+        writing,
+        gates,
+        space,
+    } = started;
+    let served = run_places(rt, alloc, turns, gates, runner);
+    // It ends once each line is closed, or all are gone.
+    let ended = writing.join(&rt);
+    let served = served?;
+    let PlacesEnd { ends, threads } = served;
+    let EndSpace { lines, turns } = space;
+    Ok(settle_run(ends, threads, ended, lines, turns))
+}
+
 /// The run of a store whose writer this is, and whose seats know what it keeps: as [`run_store`] says, and the writer at its end.
-fn run_writer_of<
+pub(crate) fn run_writer_of<
     N: LineName + Send + Sync + 'static,
     S: StoreWriter<N> + Send + 'static,
     T: Turn + Send + Drop + 'static,
@@ -239,24 +367,14 @@ where
     requires seats { All (λ seat. seat ≡ kept_of (S.written writer)) seats.items }
     requires queue { (queue.name ≡ N.queue) × (queue.places ≡ N.places) }
     requires turns { queue.places ≡ length turns.items }
-    ensures run { IfOk result (λ end. IsRunTo S.most_held N.limit queue.places (kept_of (S.written writer)) (map T.connections turns.items)
+    ensures run { IfOk result (λ end. IsRunTo S.most_held N.limit N.places (kept_of (S.written writer)) (map T.connections turns.items)
         (map T.connections end.0.turns.items) (S.written end.1) end.0.version end.0.changes end.0.cause) }
     ensures idle { IfOk result (λ end. S.ready end.1 ≡ []) }
 {
-    let (intake, lines, queue) = queue.open::<N>()?;
-    let gates = open_gates(rt, alloc, intake, seats, lines)?;
-    // Before any thread starts, so that nothing is lost.
-    let lines = Vec::with_capacity(alloc, gates.len())?;
-    let left = Vec::with_capacity(alloc, gates.len())?;
-    let Some(writing) = start_writer(rt, queue, writer) else {
-        return Err(StoreFault::NoThread);
-    };
-    let served = run_places(rt, alloc, turns, gates, runner);
-    // It ends once each line is closed, or all are gone.
-    let ended = writing.join(&rt);
-    let served = served?;
-    let PlacesEnd { ends, threads } = served;
-    Ok(settle_run(ends, threads, ended, lines, left))
+    match start_run::<N, S, T, H>(rt, alloc, writer, seats, queue) {
+        Ok(started) => serve_run(rt, alloc, started, turns, runner),
+        Err(fault) => Err(fault),
+    }
 }
 
 fn run_named<

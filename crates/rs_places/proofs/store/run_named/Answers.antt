@@ -33,6 +33,7 @@ returns-in-Ok g c =
     let first = first_of c.args.given.items in
     let kept : kept_of c.in_ok-writer.writer ≡ first = ap kept_of c.in_ok-writer.ensures.writer ∙ append-nil first in
     let end = c.in-Ok.end in
-    let R : List Entry → Type 0 = λ l. IsStoreRun 1 c.args.blank.limit c.args.queue.places l (map g.T.Turn.connections c.args.turns.items) (map g.T.Turn.connections end.turns.items) end.version end.changes end.cause in
-    let L : ℕ → Type 0 = λ n. IsStoreRun 1 n c.args.queue.places (kept_of c.in_ok-writer.writer) (map g.T.Turn.connections c.args.turns.items) (map g.T.Turn.connections end.turns.items) end.version end.changes end.cause in
-    subst R kept (subst L (sym c.requires.store.1) c.in-Ok.ensures.run.run)
+    let R : ℕ → ℕ → List Entry → Type 0 = λ limit places l. IsStoreRun 1 limit places l (map g.T.Turn.connections c.args.turns.items) (map g.T.Turn.connections end.turns.items) end.version end.changes end.cause in
+    subst (λ l. R c.args.blank.limit c.args.queue.places l) kept
+    (subst (λ n. R c.args.blank.limit n (kept_of c.in_ok-writer.writer)) (sym c.requires.queue.1)
+    (subst (λ n. R n g.N.LineName.places (kept_of c.in_ok-writer.writer)) (sym c.requires.store.1) c.in-Ok.ensures.run.run))
