@@ -1,7 +1,7 @@
 //! The rows of the text.
 
 use crate::counter::{Counter, End, FilterOutcome, Outcome, Qos};
-use crate::snapshot::Source;
+use crate::snapshot::{JournalPart, Source};
 
 /// The type of a family.
 #[derive(Clone, Copy)]
@@ -10,19 +10,31 @@ pub enum Kind {
     Counter,
     /// It grows and falls.
     Gauge,
+    /// It only grows, is counted in microseconds and told in seconds.
+    Seconds,
 }
 
 impl Kind {
     ghost use Rattle.std.specs.Prelude.{◌≡◌};
-    ghost use Rattle.rs_metrics.specs.Texts.{kind_text};
+    ghost use Rattle.rs_metrics.specs.Texts.{kind_text, power_text};
 
     /// Its word in the text.
     pub fn word(self) -> &'static str
         ensures { result.now ≡ kind_text self }
     {
         match self {
-            Kind::Counter => "counter",
+            Kind::Counter | Kind::Seconds => "counter",
             Kind::Gauge => "gauge",
+        }
+    }
+
+    /// What stands behind its numbers in the text: the power of ten by which they are multiplied, if not by one.
+    pub fn power(self) -> &'static str
+        ensures { result.now ≡ power_text self }
+    {
+        match self {
+            Kind::Counter | Kind::Gauge => "",
+            Kind::Seconds => "e-6",
         }
     }
 }
@@ -347,6 +359,51 @@ pub const FAMILIES: &[Family] = &[
         rows: &[Row {
             labels: "",
             source: Source::Waiting,
+        }],
+    },
+    Family {
+        name: "rstored_journal_commits_total",
+        help: "Commits to the journal that succeeded. Missing without --keep, as all below.",
+        kind: Kind::Counter,
+        rows: &[Row {
+            labels: "",
+            source: Source::Journal(JournalPart::Commits),
+        }],
+    },
+    Family {
+        name: "rstored_journal_commit_seconds_total",
+        help: "Seconds that commits to the journal took, failed ones too.",
+        kind: Kind::Seconds,
+        rows: &[Row {
+            labels: "",
+            source: Source::Journal(JournalPart::Micros),
+        }],
+    },
+    Family {
+        name: "rstored_journal_bytes_written_total",
+        help: "Bytes of the pages that commits wrote to the journal.",
+        kind: Kind::Counter,
+        rows: &[Row {
+            labels: "",
+            source: Source::Journal(JournalPart::Written),
+        }],
+    },
+    Family {
+        name: "rstored_journal_bytes",
+        help: "Bytes of the pages that the journal has.",
+        kind: Kind::Gauge,
+        rows: &[Row {
+            labels: "",
+            source: Source::Journal(JournalPart::Size),
+        }],
+    },
+    Family {
+        name: "rstored_journal_refusing",
+        help: "1 while the journal refuses changes, otherwise 0.",
+        kind: Kind::Gauge,
+        rows: &[Row {
+            labels: "",
+            source: Source::Journal(JournalPart::Refusing),
         }],
     },
 ];

@@ -2,6 +2,7 @@
 
 use crate::counter::{End, FilterOutcome, Outcome, Qos};
 use crate::metrics::Metrics;
+use crate::snapshot::JournalNumbers;
 use std::alloc::AllocError;
 use std::sync::Arc;
 
@@ -163,6 +164,33 @@ impl WriterMeter {
             metrics.set_version(version);
             metrics.set_topics(topics);
             metrics.set_bytes(bytes);
+        }
+    }
+}
+
+/// Shows what a journal did and is, if there are metrics.
+#[derive(Drop)]
+pub struct JournalMeter {
+    metrics: Option<Arc<Metrics>>,
+}
+
+impl JournalMeter {
+    /// Of these metrics.
+    pub fn new(metrics: Option<Arc<Metrics>>) -> JournalMeter {
+        JournalMeter { metrics }
+    }
+
+    /// There is a journal, and these are its numbers.
+    pub fn set(&self, numbers: JournalNumbers) {
+        if let Some(metrics) = &self.metrics {
+            metrics.set_journal(numbers);
+        }
+    }
+
+    /// The journal refuses changes from now on.
+    pub fn set_refusing(&self) {
+        if let Some(metrics) = &self.metrics {
+            metrics.set_journal_refusing();
         }
     }
 }

@@ -4,7 +4,7 @@ ghost use Rattle.std.specs.Prelude.{◌≡◌, IfOk, vec_len};
 ghost use Rattle.rs_metrics.specs.declared.metrics.TheConstants.{SHARDS};
 
 use crate::counter::{COUNTERS, Counter, End, FilterOutcome, Outcome, Qos};
-use crate::snapshot::{Limits, Snapshot};
+use crate::snapshot::{JournalNumbers, Limits, Snapshot};
 use std::alloc::{AllocError, Global};
 use std::array;
 use std::sync::atomic::{AtomicBool, AtomicU64, Ordering};
@@ -42,6 +42,60 @@ impl Shard {
     }
 }
 
+/// What a journal did and is.
+#[derive(Drop)]
+struct ShownJournal {
+    is_there: AtomicBool,
+    commits: AtomicU64,
+    micros: AtomicU64,
+    written: AtomicU64,
+    size: AtomicU64,
+    is_refusing: AtomicBool,
+}
+
+impl ShownJournal {
+    fn new() -> ShownJournal {
+        ShownJournal {
+            is_there: AtomicBool::new(false),
+            commits: AtomicU64::new(0),
+            micros: AtomicU64::new(0),
+            written: AtomicU64::new(0),
+            size: AtomicU64::new(0),
+            is_refusing: AtomicBool::new(false),
+        }
+    }
+
+    fn set(&self, numbers: JournalNumbers) {
+        let JournalNumbers {
+            commits,
+            micros,
+            written,
+            size,
+            is_refusing,
+        } = numbers;
+        self.commits.store(commits, Ordering::SeqCst);
+        self.micros.store(micros, Ordering::SeqCst);
+        self.written.store(written, Ordering::SeqCst);
+        self.size.store(size, Ordering::SeqCst);
+        self.is_refusing.store(is_refusing, Ordering::SeqCst);
+        self.is_there.store(true, Ordering::SeqCst);
+    }
+
+    /// The numbers, if there is a journal.
+    fn numbers(&self) -> Option<JournalNumbers> {
+        if !self.is_there.load(Ordering::SeqCst) {
+            return None;
+        }
+        Some(JournalNumbers {
+            commits: self.commits.load(Ordering::SeqCst),
+            micros: self.micros.load(Ordering::SeqCst),
+            written: self.written.load(Ordering::SeqCst),
+            size: self.size.load(Ordering::SeqCst),
+            is_refusing: self.is_refusing.load(Ordering::SeqCst),
+        })
+    }
+}
+
 /// What only the writer of the store knows.
 #[derive(Drop)]
 struct Shown {
@@ -50,6 +104,7 @@ struct Shown {
     version: AtomicU64,
     taken: AtomicU64,
     is_taking: AtomicBool,
+    journal: ShownJournal,
     _apart: [u64; 7],
 }
 
@@ -61,6 +116,7 @@ impl Shown {
             version: AtomicU64::new(0),
             taken: AtomicU64::new(0),
             is_taking: AtomicBool::new(false),
+            journal: ShownJournal::new(),
             _apart: [0; 7],
         }
     }
@@ -189,6 +245,16 @@ impl Metrics {
         self.shown.is_taking.load(Ordering::SeqCst)
     }
 
+    /// There is a journal, and these are its numbers.
+    pub fn set_journal(&self, numbers: JournalNumbers) {
+        self.shown.journal.set(numbers);
+    }
+
+    /// The journal refuses changes from now on.
+    pub fn set_journal_refusing(&self) {
+        self.shown.journal.is_refusing.store(true, Ordering::SeqCst);
+    }
+
     /// All numbers, summed up. `resident` is the memory that the process has, in bytes, if the system tells it.
     ///
     /// What is counted meanwhile may be in it or not. There are never fewer connections that began than ended, nor fewer changes that were
@@ -209,6 +275,7 @@ impl Metrics {
             taken,
             is_taking: self.is_taking(),
             resident,
+            journal: self.shown.journal.numbers(),
         }
     }
 }

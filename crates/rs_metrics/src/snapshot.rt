@@ -1,7 +1,7 @@
 //! The numbers at one moment.
 
 ghost use Rattle.std.specs.Prelude.{◌≡◌};
-ghost use Rattle.rs_metrics.specs.Snapshots.{clients_of, count_of, flag_of, number_of};
+ghost use Rattle.rs_metrics.specs.Snapshots.{clients_of, count_of, flag_of, journal_number, number_of, part_of};
 
 use crate::counter::{COUNTERS, Counter, ENDS};
 
@@ -14,6 +14,51 @@ pub struct Limits {
     pub topics: u64,
     /// How many bytes retained messages may take, if that is limited.
     pub bytes: Option<u64>,
+}
+
+/// What a journal did and is. Bytes are those of its pages.
+#[derive(Clone, Copy)]
+pub struct JournalNumbers {
+    /// How many commits succeeded.
+    pub commits: u64,
+    /// How many microseconds all commits took.
+    pub micros: u64,
+    /// How many bytes they wrote.
+    pub written: u64,
+    /// How many bytes it has.
+    pub size: u64,
+    /// Whether it refuses changes.
+    pub is_refusing: bool,
+}
+
+/// One of the [`JournalNumbers`].
+#[derive(Clone, Copy)]
+pub enum JournalPart {
+    /// Commits that succeeded.
+    Commits,
+    /// Microseconds of commits.
+    Micros,
+    /// Bytes that they wrote.
+    Written,
+    /// Bytes that the journal has.
+    Size,
+    /// 1 if it refuses changes, otherwise 0.
+    Refusing,
+}
+
+impl JournalNumbers {
+    /// The number of this part.
+    fn part(&self, part: JournalPart) -> u64
+        ensures { result ≡ part_of self.now part }
+    {
+        match part {
+            JournalPart::Commits => self.commits,
+            JournalPart::Micros => self.micros,
+            JournalPart::Written => self.written,
+            JournalPart::Size => self.size,
+            JournalPart::Refusing => flag(self.is_refusing),
+        }
+    }
 }
 
 /// The numbers of a server at one moment.
@@ -37,6 +82,8 @@ pub struct Snapshot {
     pub is_taking: bool,
     /// The memory of the process, in bytes, if the system tells it.
     pub resident: Option<u64>,
+    /// Those of the journal, if there is one.
+    pub journal: Option<JournalNumbers>,
 }
 
 /// Where a number of the text comes from.
@@ -66,6 +113,8 @@ pub enum Source {
     Resident,
     /// When the server started, in whole seconds since 1970.
     Started,
+    /// The journal. There is no number if there is none.
+    Journal(JournalPart),
 }
 
 impl Snapshot {
@@ -103,6 +152,16 @@ impl Snapshot {
             Source::Taking => Some(flag(self.is_taking)),
             Source::Resident => self.resident,
             Source::Started => Some(self.started),
+            Source::Journal(part) => self.journal_number(part),
+        }
+    }
+
+    fn journal_number(&self, part: JournalPart) -> Option<u64>
+        ensures { result ≡ journal_number self.now.journal part }
+    {
+        match &self.journal {
+            Some(journal) => Some(journal.part(part)),
+            None => None,
         }
     }
 }

@@ -4,7 +4,7 @@ ghost use Rattle.std.specs.Prelude.{◌≡◌, ◌++◌, OnOk};
 ghost use Rattle.std.specs.String.{string_bytes};
 ghost use Rattle.rs_metrics.specs.Texts.{families_text, family_text, line_text, row_text, rows_text};
 
-use crate::families::{Family, Row};
+use crate::families::{Family, Kind, Row};
 use crate::snapshot::Snapshot;
 use std::alloc::AllocError;
 
@@ -38,19 +38,20 @@ fn write_family(text: &mut String, snapshot: &Snapshot, family: &Family) -> Resu
     } = family;
     write_line(text, "# HELP ", name, " ", help)?;
     write_line(text, "# TYPE ", name, " ", kind.word())?;
-    write_rows(text, snapshot, name, rows)
+    write_rows(text, snapshot, name, *kind, rows)
 }
 
 fn write_rows(
     text: &mut String,
     snapshot: &Snapshot,
     name: &str,
+    kind: Kind,
     rows: &[Row],
 ) -> Result<(), AllocError>
-    ensures { OnOk result (string_bytes text.new ≡ string_bytes text.old ++ rows_text snapshot.now name.now rows.now) }
+    ensures { OnOk result (string_bytes text.new ≡ string_bytes text.old ++ rows_text snapshot.now name.now kind rows.now) }
 {
     for row in rows {
-        write_row(text, snapshot, name, row)?;
+        write_row(text, snapshot, name, kind, row)?;
     }
     Ok(())
 }
@@ -60,9 +61,10 @@ fn write_row(
     text: &mut String,
     snapshot: &Snapshot,
     name: &str,
+    kind: Kind,
     row: &Row,
 ) -> Result<(), AllocError>
-    ensures { OnOk result (string_bytes text.new ≡ string_bytes text.old ++ row_text snapshot.now name.now row.now) }
+    ensures { OnOk result (string_bytes text.new ≡ string_bytes text.old ++ row_text snapshot.now name.now kind row.now) }
 {
     let Some(number) = snapshot.number(row.source) else {
         return Ok(());
@@ -71,6 +73,7 @@ fn write_row(
     text.push_str(row.labels)?;
     text.push_str(" ")?;
     write!(text, "{number}")?;
+    text.push_str(kind.power())?;
     text.push_str("\n")
 }
 

@@ -6,6 +6,10 @@
 //!
 //! [`parse_request`] says what the bytes of a request ask for, as far as they have come, and [`write_reply`] writes a reply, both by `http1`. A
 //! [`Conversation`] is one connection, over any stream that does not block. The contracts do not say what a socket gives or takes.
+//!
+//! HEAD is answered like GET, without the body, and a query behind the path does not count. A head that is too long, or has more than 64
+//! fields, is answered 431, or 414 if its first line has not ended. What follows the request is discarded. A client that leaves before its
+//! request is whole gets no reply. If memory is refused, a connection ends without one; if the clock cannot be read, at once.
 #![tactic(auto)]
 
 mod asking;

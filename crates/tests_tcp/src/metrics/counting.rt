@@ -1,8 +1,8 @@
 //! Each number against what the test counted.
 
 use rs_metrics::{
-    COUNTERS, Change, Counter, End, FAMILIES, FilterOutcome, Limits, Meter, Metrics, Outcome, Qos,
-    Snapshot, Source, WriterMeter, resident_pages,
+    COUNTERS, Change, Counter, End, FAMILIES, FilterOutcome, JournalMeter, JournalNumbers, Limits,
+    Meter, Metrics, Outcome, Qos, Snapshot, Source, WriterMeter, resident_pages,
 };
 use std::alloc::{AllocError, Global};
 use std::sync::Arc;
@@ -243,6 +243,39 @@ fn meters_count_if_there_are_metrics(rt: HostRuntime) -> Result<(), Fail> {
     count_some(&Meter::new(&None, 7)?);
     assert!(rt; !WriterMeter::new(None).is_needed());
     assert!(rt; has_some(&metrics.snapshot(None)));
+    Ok(())
+}
+
+/// Whether the snapshot has these numbers of a journal, and this says whether it refuses changes.
+fn has_journal(snapshot: &Snapshot, numbers: &JournalNumbers, is_refusing: bool) -> bool {
+    snapshot.journal.is_some_and(|journal| {
+        (journal.commits, journal.micros) == (numbers.commits, numbers.micros)
+            && (journal.written, journal.size) == (numbers.written, numbers.size)
+            && journal.is_refusing == is_refusing
+    })
+}
+
+#[test]
+fn a_journal_is_told_once_it_is_there(rt: HostRuntime) -> Result<(), Fail> {
+    let alloc = rt.alloc();
+    let metrics = Arc::new(alloc, Metrics::new(alloc, LIMITS, 0)?).map_err(|_| AllocError)?;
+    assert!(rt; metrics.snapshot(None).journal.is_none());
+    let meter = JournalMeter::new(Some(Arc::try_clone(&metrics)?));
+    let numbers = JournalNumbers {
+        commits: 1,
+        micros: 20,
+        written: 300,
+        size: 4_000,
+        is_refusing: false,
+    };
+    meter.set(numbers);
+    assert!(rt; has_journal(&metrics.snapshot(None), &numbers, false));
+    meter.set_refusing();
+    assert!(rt; has_journal(&metrics.snapshot(None), &numbers, true));
+    let nobody = JournalMeter::new(None);
+    nobody.set(numbers);
+    nobody.set_refusing();
+    assert!(rt; has_journal(&metrics.snapshot(None), &numbers, true));
     Ok(())
 }
 

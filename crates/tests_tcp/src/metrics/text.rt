@@ -1,7 +1,7 @@
 //! The text, line by line.
 
 use crate::metrics::counting::LIMITS;
-use rs_metrics::{FAMILIES, Limits, Metrics, Outcome, Qos, write_text};
+use rs_metrics::{FAMILIES, JournalNumbers, Limits, Metrics, Outcome, Qos, write_text};
 use std::alloc::{AllocError, Global};
 use std::test::Fail;
 
@@ -20,10 +20,20 @@ fn is_sample_of(text: &str, name: &str) -> bool {
     }
 }
 
+/// Whether it is a number, of millionths if the name says that it is of seconds which add up.
+fn is_number(text: &str, name: &str) -> bool {
+    let digits = if name.ends_with("_seconds_total") {
+        text.strip_suffix("e-6")
+    } else {
+        Some(text)
+    };
+    digits.is_some_and(|digits| digits.parse::<u64>().is_ok())
+}
+
 /// Whether the line is a number of the family of this name.
 fn is_sample(line: &str, name: &str) -> bool {
     match line.rsplit_once(' ') {
-        Some((sample, number)) => is_sample_of(sample, name) && number.parse::<u64>().is_ok(),
+        Some((sample, number)) => is_sample_of(sample, name) && is_number(number, name),
         None => false,
     }
 }
@@ -60,13 +70,22 @@ fn is_text(text: &str) -> bool {
     }
 }
 
-/// The text of some numbers.
+/// The text of some numbers. There is a journal if there is a number of the memory.
 fn some_text(alloc: Global, limits: Limits, resident: Option<u64>) -> Result<String, AllocError> {
     let metrics = Metrics::new(alloc, limits, 1_700_000_000)?;
     metrics.count_opened(1);
     metrics.count_set(70, Qos::AtLeastOnce, Outcome::StoreFull);
     metrics.count_set(6, Qos::AtLeastOnce, Outcome::StoreFull);
     metrics.set_bytes(u64::MAX);
+    if resident.is_some() {
+        metrics.set_journal(JournalNumbers {
+            commits: 3,
+            micros: 18_514,
+            written: 6_144,
+            size: 3_072,
+            is_refusing: true,
+        });
+    }
     let mut text = String::new(alloc);
     write_text(&mut text, &metrics.snapshot(resident), FAMILIES)?;
     Ok(text)
@@ -93,6 +112,13 @@ fn the_text_is_that_of_prometheus(rt: HostRuntime) -> Result<(), Fail> {
         "rstored_resident_memory_bytes 81920",
         "rstored_start_time_seconds 1700000000",
         "rstored_writer_running 0",
+        "rstored_journal_commits_total 3",
+        "# TYPE rstored_journal_commit_seconds_total counter",
+        "rstored_journal_commit_seconds_total 18514e-6",
+        "rstored_journal_bytes_written_total 6144",
+        "# TYPE rstored_journal_bytes gauge",
+        "rstored_journal_bytes 3072",
+        "rstored_journal_refusing 1",
     ] {
         assert!(rt; has_line(text, line), "{line}");
     }
@@ -112,6 +138,7 @@ fn a_number_that_is_not_there_has_no_line(rt: HostRuntime) -> Result<(), Fail> {
     for name in [
         "rstored_resident_memory_bytes ",
         "rstored_retained_bytes_limit ",
+        "rstored_journal_",
     ] {
         assert!(rt; !text.lines().any(|line| line.starts_with(name)), "{name}");
     }
