@@ -2,9 +2,11 @@
 
 Both listen on the loopback of one machine, and are measured alternately; each number is the median
 of five runs, or the least if a measure says so. The clients are bench/load.c. The table is for a
-person, on a quiet machine. With `--fleets` it has all fleets of clients, and nothing else, in a
-network of its own if that may be made, where more connections may wait. There the server may lose
-none. With `--once` each measure is made once and small, and none is judged.
+person, on a quiet machine. If Debian's redis-server and redis-tools are installed, a second table
+has publications beside Redis' SET, which stores a value in memory, too. With `--fleets` the table
+has all fleets of clients, and nothing else, in a network of its own if that may be made, where more
+connections may wait. There the server may lose none. With `--once` each measure is made once and
+small, and none is judged.
 """
 
 import contextlib
@@ -28,6 +30,7 @@ from harness import debian
 from harness.mosquitto import Mosquitto
 from harness.patience import PATIENCE
 from harness.program import ROOT, most_memory
+from harness.redis import Redis
 from harness.server import Server
 from harness.words import given_words
 
@@ -486,6 +489,52 @@ FLEETS = (
 )
 
 
+# What is published beside Redis: the values' size, how many keys, and how many wait for a reply.
+SIZE = 64
+KEYS = 1_000
+PIPELINED = 16
+
+
+def sets(connections):
+    """The rates of publications at QoS 1, and of Redis' SET, each with so many that wait for their
+    reply."""
+
+    def prepare(load, redis, scale):
+        count = 400_000 // scale
+        words = {"topics": KEYS, "window": PIPELINED, "name": "set"}
+        return (
+            lambda: load.rate(1, connections, count, **words),
+            lambda: redis.set_rate(connections, count, KEYS, SIZE, PIPELINED),
+        )
+
+    return prepare
+
+
+BESIDE_REDIS = (
+    fast("QoS 1 or SET, 16 at a time, one connection", RATE, sets(1), 1),
+    fast("QoS 1 or SET, 16 at a time, eight connections", RATE, sets(8), 1),
+)
+
+
+def values_beside_redis(measure, path, runs, scale):
+    """The values of the program and of Redis, which are measured alternately."""
+    with Server(topics=TOPICS, **SERVICE) as server, Redis() as redis:
+        tools = measure.prepare(Load(path, server), redis, scale)
+        for tool in tools:
+            # So that each topic and each key has a value.
+            tool()
+        found = [[tool() for tool in tools] for _ in range(runs)]
+    return [measure.choose(each) for each in zip(*found)]
+
+
+def has_redis():
+    """Whether Redis is installed. It is not asked for: nothing else needs it."""
+    if debian.is_installed("redis-server") and debian.is_installed("redis-tools"):
+        return True
+    print("\nskipped what needs redis-server and redis-tools")
+    return False
+
+
 def values(measure, path, runs, scale):
     """The values of the program and of mosquitto, which are measured alternately."""
     options = {**SERVICE, **measure.server}
@@ -511,29 +560,45 @@ def processors():
 def table(path, measures):
     """Prints the table; whether all that is wanted is reached."""
     print(f"mosquitto {debian.version('mosquitto')}; {processors()}\n")
-    print("| Measure | rstored | mosquitto | ratio | wanted |\n|---|---|---|---|---|")
+    missed = rows("mosquitto", measures, lambda measure: values(measure, path, RUNS, scale=1))
+    if measures is MEASURES:
+        waits = sorted(echo_wait(path, scale=1) for _ in range(RUNS))
+        print("\nlongest wait of an echo server beside the same replaying client, each run, us:")
+        print(", ".join(map(shown, waits)))
+        if has_redis():
+            print(f"\nRedis {debian.version('redis-server')}\n")
+            missed += rows(
+                "Redis",
+                BESIDE_REDIS,
+                lambda measure: values_beside_redis(measure, path, RUNS, scale=1),
+            )
+    if missed:
+        print(f"\nnot reached: {'; '.join(missed)}")
+    return not missed
+
+
+def rows(other_name, measures, measured):
+    """Prints a table of measures beside another server: those that do not reach what is wanted."""
+    print(f"| Measure | rstored | {other_name} | ratio | wanted |\n|---|---|---|---|---|")
     missed = []
     for measure in measures:
-        own, other = values(measure, path, RUNS, scale=1)
+        own, other = measured(measure)
         texts = [f"{shown(value)} {measure.unit}".strip() for value in (own, other)]
         # A share is of a broker's own rate.
         ratio = shown(measure.ratio(own, other)) if measure.unit else ""
         print(f"| {measure.name} | {' | '.join(texts)} | {ratio} | {measure.wanted} |", flush=True)
         if not measure.is_reached(own, other):
             missed.append(measure.name)
-    if measures is MEASURES:
-        waits = sorted(echo_wait(path, scale=1) for _ in range(RUNS))
-        print("\nlongest wait of an echo server beside the same replaying client, each run, us:")
-        print(", ".join(map(shown, waits)))
-    if missed:
-        print(f"\nnot reached: {'; '.join(missed)}")
-    return not missed
+    return missed
 
 
 def once(path):
     for measure in (*MEASURES, FLEETS[-1]):
         values(measure, path, runs=1, scale=100)
     echo_wait(path, scale=100)
+    if has_redis():
+        for measure in BESIDE_REDIS:
+            values_beside_redis(measure, path, runs=1, scale=100)
     print("brokers: each measure was made once")
 
 
