@@ -200,7 +200,11 @@ fn the_numbers_are_told(rt: HostRuntime) -> Result<(), Fail> {
     );
     let (_head, body) = text.split_once("\r\n\r\n").ok_or("body")?;
     assert!(rt; body.starts_with("# HELP rstored_start_time_seconds"));
-    assert!(rt; body.ends_with("\nrstored_changes_waiting 0\n"));
+    assert!(rt; body.ends_with("\n# TYPE rstored_journal_refusing gauge\n"));
+    assert!(rt;
+        body.lines()
+            .any(|line| line.starts_with("rstored_changes_waiting 0"))
+    );
     assert!(rt;
         body.lines()
             .any(|line| line.starts_with("rstored_resident_memory_bytes "))
