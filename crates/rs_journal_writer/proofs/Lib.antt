@@ -1,3 +1,4 @@
+pub mod Crashes
 pub mod Moving
 pub mod Parts
 pub mod Sent

@@ -14,7 +14,9 @@ use Rattle.rs_version.specs.Writer.{IsHeldBehind, IsReleasedInPart, Written, hol
 use Rattle.rs_journal.specs.declared.journal.Journal.{Journal}
 use Rattle.rs_journal.specs.Journals.{may_leave}
 use Rattle.rs_journal_writer.specs.declared.kept_writer.TheConstants.{MAX_HELD}
-use Rattle.rs_journal_writer.specs.Keeping.{IsSafe, KeptValue, Survives}
+use Rattle.rs_journal.specs.Retaining.{retained_after}
+use Rattle.rs_store.specs.History.{AreRetained}
+use Rattle.rs_journal_writer.specs.Keeping.{Covers, IsSafe, KeptValue, Survives}
 use Rattle.rs_journal_writer.specs.State.{HasImage, IsKeeping, MayStore, Moves, Stores, held_in, ready_in, written_in}
 use Rattle.rs_journal_writer.proofs.Moving.{moves_few}
 use Rattle.rs_journal_writer.proofs.Storing.{leaves_rest}
@@ -174,12 +176,16 @@ put_shown w w' list list' rest n n' e m is there held long ready =
     shown ∙ ap (λ (l : List Entry). shows l) all
 
 -- the first entry that waits is the next one that is ready, if nothing is held
-pub next_is : (w w' : Written) (list list' rest more : List Entry) (n : ℕ) (e x : Entry) → Moves w list w' list' → n ≤ length list → length list' ≡ n → ready_in list n ≡ e ∷ rest → list' ≡ x ∷ more → x ≡ e
-next_is w w' list list' rest more n e x m there long ready first =
+pub next_whole : (w w' : Written) (list list' rest : List Entry) (n : ℕ) (e : Entry) → Moves w list w' list' → n ≤ length list → length list' ≡ n → ready_in list n ≡ e ∷ rest → list' ≡ e ∷ rest
+next_whole w w' list list' rest n e m there long ready =
     let zero : length list' - n ≡ 0 = omega (arith, long) in
     let all : ready_in list' n ≡ list' = ap (λ (k : ℕ). drop k list') zero in
     let moved = (moved_parts w w' list list' n m there (omega (arith, long))).1 in
-    let same : x ∷ more ≡ e ∷ rest = sym first ∙ (sym all ∙ (moved ∙ ready)) in
+    sym all ∙ (moved ∙ ready)
+
+pub next_is : (w w' : Written) (list list' rest more : List Entry) (n : ℕ) (e x : Entry) → Moves w list w' list' → n ≤ length list → length list' ≡ n → ready_in list n ≡ e ∷ rest → list' ≡ x ∷ more → x ≡ e
+next_is w w' list list' rest more n e x m there long ready first =
+    let same : x ∷ more ≡ e ∷ rest = sym first ∙ next_whole w w' list list' rest n e m there long ready in
     cc (same)
 
 pub next_legal : (limit : ℕ) (w : Written) (list rest : List Entry) (n : ℕ) (e : Entry) → IsLegal limit (kept_of w ++ list) → ready_in list n ≡ e ∷ rest → IsLegal limit (extended (kept_of (written_in w list n)) e)
@@ -248,6 +254,54 @@ one_shown w w' list list' n e x m held one zero none first =
     ∙ (ap (λ l. (w.published ++ l) ++ list) held ∙ (ap (λ l. l ++ list) (append-nil w.published) ∙ ap (λ l. w.published ++ l) one)))))) in
     (shown ∙ ap (λ (l : List Entry). shows l) all, cc (same))
 
+-- ---- what anybody was told
+
+-- an image that keeps all that is published, held and waiting
+told_whole : (w : Written) (list : List Entry) (n : ℕ) (left : Image) (told : List Entry) → IsPrefix told (kept_of w) → HasImage left (kept_of w ++ list)
+    → (s : Survives w.published (held_in w list n ++ ready_in list n) left) × IsPrefix told (w.published ++ s.front)
+told_whole w list n left told p has =
+    let all = w.held ++ list in
+    let R : List Entry → Type 0 = λ l. AreRetained l (retained_after has.operations) in
+    let s : Survives w.published (held_in w list n ++ ready_in list n) left = record {
+      front = all;
+      begins = ([], append-nil all ∙ sym (parts_held w list n));
+      operations = has.operations;
+      formed = has.formed;
+      keeps = has.keeps;
+      retained = subst R (append_assoc w.published w.held list) has.same;
+    } in
+    (s, (p.0 ++ list, sym (append_assoc told p.0 list) ∙ (ap (λ (l : List Entry). l ++ list) p.1 ∙ append_assoc w.published w.held list)))
+
+-- one that keeps what is published
+told_old : (w : Written) (list : List Entry) (n : ℕ) (left : Image) (told rest : List Entry) → told ++ rest ≡ w.published → HasImage left w.published
+    → (s : Survives w.published (held_in w list n ++ ready_in list n) left) × IsPrefix told (w.published ++ s.front)
+told_old w list n left told rest is has =
+    let R : List Entry → Type 0 = λ l. AreRetained l (retained_after has.operations) in
+    let s : Survives w.published (held_in w list n ++ ready_in list n) left = record {
+      front = [];
+      begins = (held_in w list n ++ ready_in list n, refl);
+      operations = has.operations;
+      formed = has.formed;
+      keeps = has.keeps;
+      retained = subst R (sym (append-nil w.published)) has.same;
+    } in
+    (s, (rest, is ∙ sym (append-nil w.published)))
+
+-- one that keeps what waits, too, if nothing else is held
+told_new : (w : Written) (list : List Entry) (n : ℕ) (left : Image) (told rest : List Entry) → told ++ rest ≡ w.published → w.held ≡ [] → HasImage left (w.published ++ list)
+    → (s : Survives w.published (held_in w list n ++ ready_in list n) left) × IsPrefix told (w.published ++ s.front)
+told_new w list n left told rest is none has =
+    let whole : list ≡ held_in w list n ++ ready_in list n = ap (λ (h : List Entry). h ++ list) (sym none) ∙ sym (parts_held w list n) in
+    let s : Survives w.published (held_in w list n ++ ready_in list n) left = record {
+      front = list;
+      begins = ([], append-nil list ∙ whole);
+      operations = has.operations;
+      formed = has.formed;
+      keeps = has.keeps;
+      retained = has.same;
+    } in
+    (s, (rest ++ list, sym (append_assoc told rest list) ∙ ap (λ (l : List Entry). l ++ list) is))
+
 -- ---- the invariant
 
 survives_all : (w : Written) (list : List Entry) (n : ℕ) (left : Image) (front : List Entry) → IsPrefix front (held_in w list n ++ ready_in list n) → HasImage left (w.published ++ front)
@@ -256,6 +310,7 @@ survives_all w list n left front begins has = record {
   front = front;
   begins = begins;
   operations = has.operations;
+  formed = has.formed;
   keeps = has.keeps;
   retained = has.same;
 }
@@ -341,7 +396,7 @@ module _ {D : Type 0} {g : Ghosts D} where
       let stores : Stores it (kept_of w ++ list) = k.stored in
       let I : List Entry → Type 0 = λ l. HasImage left l in
       survives_all w list n left all ([], append-nil all ∙ sym (parts_held w list n))
-      (subst I (append_assoc w.published w.held list) (record { operations = stores.standing; keeps = leaves_rest it stores.standing stores.rests left may; same = stores.same }))
+      (subst I (append_assoc w.published w.held list) (record { operations = stores.standing; formed = stores.formed; keeps = leaves_rest it stores.standing stores.rests left may; same = stores.same }))
   safe limit own w it list n true k = λ left may.
       let stored : (w.held ≡ []) × MayStore it w.published list = k.stored in
       let I : List Entry → Type 0 = λ l. HasImage left l in
@@ -349,6 +404,20 @@ module _ {D : Type 0} {g : Ghosts D} where
       ⊎_elim
       (λ old. survives_all w list n left [] (held_in w list n ++ ready_in list n, refl) (subst I (sym (append-nil w.published)) old))
       (λ new. survives_all w list n left list ([], append-nil list ∙ whole) new)
+      (stored.1 left may)
+
+  -- so it does for all that anybody was told
+  pub safe_told : (limit own : ℕ) (w : Written) (it : Journal D g) (list : List Entry) (n : ℕ) (in_doubt : Bool) (told : List Entry) → IsKeeping limit own w it list n in_doubt → IsPrefix told (kept_of w)
+      → Covers (may_leave it) (record { written = written_in w list n; ready = ready_in list n }) told
+  safe_told limit own w it list n false told k p = λ left may.
+      let stores : Stores it (kept_of w ++ list) = k.stored in
+      told_whole w list n left told p (record { operations = stores.standing; formed = stores.formed; keeps = leaves_rest it stores.standing stores.rests left may; same = stores.same })
+  safe_told limit own w it list n true told k p = λ left may.
+      let stored : (w.held ≡ []) × MayStore it w.published list = k.stored in
+      let is : told ++ p.0 ≡ w.published = p.1 ∙ (ap (λ (h : List Entry). w.published ++ h) stored.0 ∙ append-nil w.published) in
+      ⊎_elim
+      (λ old. told_old w list n left told p.0 is old)
+      (λ new. told_new w list n left told p.0 is stored.0 new)
       (stored.1 left may)
 
   -- a commit

@@ -85,8 +85,8 @@ module _ {D : Type 0} {g : Ghosts D} where
   may_synced it it' before crash stores = λ left may.
       let s = stores.standing in
       inl (elim (crash s s (holds_rest it s stores.rests) left may) [
-        | inl a ↦ record { operations = s; keeps = a; same = stores.same }
-        | inr b ↦ record { operations = s; keeps = b; same = stores.same }
+        | inl a ↦ record { operations = s; formed = stores.formed; keeps = a; same = stores.same }
+        | inr b ↦ record { operations = s; formed = stores.formed; keeps = b; same = stores.same }
       ])
 
   -- ---- a commit of Sets in the place of all operations
@@ -107,21 +107,21 @@ module _ {D : Type 0} {g : Ghosts D} where
           same = stores.same;
         })
 
-    pub may_replaced : ((standing seen : List Operation) → Holds it' standing seen → (left : Image) → may_leave it'' left → Keeps left standing ⊎ Keeps left seen) → Stores it before → Lists it before found
+    pub may_replaced : All IsOperation (sets_for found) → ((standing seen : List Operation) → Holds it' standing seen → (left : Image) → may_leave it'' left → Keeps left standing ⊎ Keeps left seen) → Stores it before → Lists it before found
         → MayStore it'' before []
-    may_replaced crash stores lists = λ left may.
+    may_replaced formed crash stores lists = λ left may.
         let s = stores.standing in
         let holds = pushed s s (holds_rest it s stores.rests) in
         inl (on_clean (state it.stream.pager).is_clean
         (λ clean. elim (crash s (sets_for found) holds left may) [
-          | inl a ↦ record { operations = s; keeps = a; same = stores.same }
-          | inr b ↦ record { operations = sets_for found; keeps = b; same = listed_same before found (lists clean) }
+          | inl a ↦ record { operations = s; formed = stores.formed; keeps = a; same = stores.same }
+          | inr b ↦ record { operations = sets_for found; formed = formed; keeps = b; same = listed_same before found (lists clean) }
         ])
         (λ wrong.
         let any = holds_any it'.stream (frames s) (frames (sets_for found)) (frames s) (frames s) (λ clean. wrong (was_clean it it' stay adds clean)) holds in
         elim (crash s s any left may) [
-          | inl a ↦ record { operations = s; keeps = a; same = stores.same }
-          | inr b ↦ record { operations = s; keeps = b; same = stores.same }
+          | inl a ↦ record { operations = s; formed = stores.formed; keeps = a; same = stores.same }
+          | inr b ↦ record { operations = s; formed = stores.formed; keeps = b; same = stores.same }
         ]))
 
   -- what was read of the journal is what it retains, if no wrong answer was taken as true

@@ -81,12 +81,17 @@ module _ {D : Type 0} {g : Ghosts D} where
     same = same_more standing before more same;
   }
 
-  pub may_store : (it : Journal D g) (standing : List Operation) (before more : List Entry) → RetainSame standing before
+  pub may_store : (it : Journal D g) (standing : List Operation) (before more : List Entry) → All IsOperation standing → All IsOperation (operations_of more) → RetainSame standing before
       → ((left : Image) → may_leave it left → Keeps left standing ⊎ Keeps left (standing ++ operations_of more)) → MayStore it before more
-  may_store it standing before more same leaves left may = elim (leaves left may) [
-    | inl old ↦ inl (record { operations = standing; keeps = old; same = same })
-    | inr new ↦ inr (record { operations = standing ++ operations_of more; keeps = new; same = same_more standing before more same })
+  may_store it standing before more formed formed' same leaves left may = elim (leaves left may) [
+    | inl old ↦ inl (record { operations = standing; formed = formed; keeps = old; same = same })
+    | inr new ↦ inr (record {
+      operations = standing ++ operations_of more;
+      formed = All-append IsOperation standing (operations_of more) formed formed';
+      keeps = new;
+      same = same_more standing before more same;
+    })
   ]
 
   pub may_store_old : (it : Journal D g) (before more : List Entry) → Stores it before → MayStore it before more
-  may_store_old it before more stores left may = inl (record { operations = stores.standing; keeps = leaves_rest it stores.standing stores.rests left may; same = stores.same })
+  may_store_old it before more stores left may = inl (record { operations = stores.standing; formed = stores.formed; keeps = leaves_rest it stores.standing stores.rests left may; same = stores.same })

@@ -24,9 +24,10 @@ use Rattle.sqlite_wal.specs.Recovery.{Image}
 abbrev pub RetainSame : List Operation → List Entry → Type 0
 RetainSame operations entries = AreRetained entries (retained_after operations)
 
--- the image keeps such operations
+-- the image keeps such operations, each of a form that a journal reads
 pub record HasImage (image : Image) (entries : List Entry) : Type 0 where
   pub operations : List Operation
+  pub formed : All IsOperation operations
   pub keeps : Keeps image operations
   pub same : RetainSame operations entries
 

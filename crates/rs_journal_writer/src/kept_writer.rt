@@ -6,7 +6,7 @@ ghost use Rattle.rs_message.specs.declared.entry.Entry.{Entry};
 ghost use Rattle.rs_store.specs.Adding.{Adds};
 ghost use Rattle.rs_store.specs.History.{IsLegal, SerialsRise, extended};
 ghost use Rattle.rs_journal.specs.Journals.{may_leave};
-ghost use Rattle.rs_journal_writer.specs.Keeping.{IsSafe};
+ghost use Rattle.rs_journal_writer.specs.Keeping.{Covers, IsSafe};
 ghost use Rattle.rs_journal_writer.specs.State.{Stores};
 ghost use Rattle.rs_version.specs.Copies.{listed};
 ghost use Rattle.rs_version.specs.Space.{HasSpaceFor};
@@ -14,7 +14,7 @@ ghost use Rattle.rs_version.specs.Writer.{Defers, IsHeldBehind, IsReady, IsReady
 ghost use Rattle.rs_version.specs.declared.fault.PutFault.TheVariants.{Held};
 
 use crate::keeping::{are_small, copy_first, keep_all};
-use crate::publishing::{publish_first, publish_held};
+use crate::publishing::{publish_first, publish_held, publish_next};
 use crate::upkeep::Upkeep;
 use crate::watching::CommitWatch;
 use rs_journal::{Journal, Switch, WriteFault};
@@ -129,6 +129,24 @@ impl<N: StoreName, R: Wait + Drop, D: Disk + Drop, C: CommitWatch> KeptWriter<N,
             upkeep: _,
             watch: _,
         } = self;
+        journal
+    }
+
+    /// The same, and whatever a crash leaves of the journal stands for a list that begins with the token's: with all that its holder was told.
+    pub fn into_journal_after(self, told: &Told<N>) -> Journal<D>
+        ensures { Covers (may_leave result) self told.now }
+    {
+        let KeptWriter {
+            mut writer,
+            journal,
+            limit: _,
+            waiting: _,
+            ready: _,
+            in_doubt: _,
+            upkeep: _,
+            watch: _,
+        } = self;
+        writer.note_covered(told);
         journal
     }
 
@@ -273,8 +291,6 @@ impl<N: StoreName, R: Wait + Drop, D: Disk + Drop, C: CommitWatch> KeptWriter<N,
         ensures may { IsLegal N.limit (extended (kept_of self.old.written) entry) }
         ensures refused { IfErr result (λ f. (f ≡ Held) × IsHeldBehind (kept_of self.old.written) self.old.written entry self.new.written) }
     {
-        // It is in `waiting`, too.
-        drop(entry);
         let ready = self.ready;
         self.ready = ready - 1;
         if self.in_doubt {
@@ -284,7 +300,8 @@ impl<N: StoreName, R: Wait + Drop, D: Disk + Drop, C: CommitWatch> KeptWriter<N,
             Ok(()) => {}
             Err(_) => return Err(PutFault::Held),
         }
-        let receipt = match publish_first(&mut self.writer, &mut self.waiting) {
+        // It is the first that waits.
+        let receipt = match publish_next(&mut self.writer, &mut self.waiting, entry) {
             Ok(receipt) => receipt,
             Err(_) => return Err(PutFault::Held),
         };

@@ -1,9 +1,11 @@
 //! What a writer begins with.
 
 ghost use Rattle.std.specs.Prelude.{◌≡◌, List, IfOk, IsTrue, map};
+ghost use Rattle.std.specs.List.{All};
 ghost use Rattle.sqlite_wal.specs.Files.{seen_image};
 ghost use Rattle.rs_message.specs.declared.entry.Operation.{Operation as Kept};
 ghost use Rattle.rs_store.specs.Contents.{found_of};
+ghost use Rattle.rs_journal_record.specs.Records.{IsOperation};
 ghost use Rattle.rs_journal.specs.Journals.{IsClean, IsOpen, StandsFor};
 ghost use Rattle.rs_journal.specs.Retaining.{retained_after};
 ghost use Rattle.rs_journal_writer.specs.State.{Stores};
@@ -28,7 +30,7 @@ pub fn load<D: JournalDisk + Drop>(
 ) -> Result<(Journal<D>, Vec<Found>), NotOpened<D, ReadFault>>
     requires log_usable { IsTrue (D.Disk.is_usable files.log) }
     requires db_usable { IsTrue (D.Disk.is_usable files.db) }
-    ensures found { IfOk result (λ r. (operations : List Kept) × (IsClean r.0 → StandsFor (seen_image D.Disk files.log files.db) operations)
+    ensures found { IfOk result (λ r. (operations : List Kept) × All IsOperation operations × (IsClean r.0 → StandsFor (seen_image D.Disk files.log files.db) operations)
         × (r.1.items ≡ map found_of (retained_after operations))) }
     ensures stored { IfOk result (λ r. Stores r.0 (first_of r.1.items)) }
     ensures open { IfOk result (λ r. IsOpen r.0) }

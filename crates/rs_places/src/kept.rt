@@ -8,10 +8,10 @@ ghost use Rattle.rs_version.specs.First.{AreOwn, first_of};
 ghost use Rattle.rs_version.specs.Writer.{kept_of, shows};
 
 use crate::store::{StoreEnd, run_writer_of};
-use rs_intake::BlankQueue;
+use rs_intake::{BlankQueue, MAX_TOGETHER};
 use rs_intake_line::LineName;
 use rs_journal::{Journal, Switch};
-use rs_journal_writer::{CommitWatch, KeptWriter};
+use rs_journal_writer::{CommitWatch, KeptWriter, MAX_HELD};
 use rs_message::Found;
 use rs_places_pool::{Runner, Watch};
 use rs_places_steps::{FreeTurn, StoreFault, Turn};
@@ -22,6 +22,9 @@ use std::alloc::Global;
 use std::marker::Brand;
 use std::sync::Wait;
 use std::thread::Threads;
+
+// The writer can be made ready for all the changes of a step.
+const _: () = prove!(MAX_TOGETHER <= MAX_HELD);
 
 /// What a run of a store that is kept leaves.
 #[derive(Drop)]

@@ -29,7 +29,7 @@ returns-in-Ok-clause-kept g c = λ before stores.
 pub returns-in-Ok-clause-crash : goal.returns-in-Ok-clause-crash
 returns-in-Ok-clause-crash g c = λ before stores.
     let more = operations_of c.args.entries.now.items in
-    may_store c.commit.new.self stores.standing before c.args.entries.now.items stores.same
+    may_store c.commit.new.self stores.standing before c.args.entries.now.items stores.formed c.in_default.ensures.formed stores.same
     (c.commit.ensures.crash stores.standing (stores.standing ++ more) (c.in_default.ensures.pushed stores.standing stores.standing (holds_rest c.args.journal.now stores.standing stores.rests)))
 
 pub returns-in-Err-commit-clause-refused : goal.returns-in-Err-commit-clause-refused
@@ -45,5 +45,5 @@ returns-in-Err-commit-clause-refused g c = λ refused before stores.
 pub returns-in-Err-commit-clause-crash : goal.returns-in-Err-commit-clause-crash
 returns-in-Err-commit-clause-crash g c = λ before stores.
     let more = operations_of c.args.entries.now.items in
-    may_store c.commit.new.self stores.standing before c.args.entries.now.items stores.same
+    may_store c.commit.new.self stores.standing before c.args.entries.now.items stores.formed c.in_default.ensures.formed stores.same
     (c.commit.ensures.crash stores.standing (stores.standing ++ more) (c.in_default.ensures.pushed stores.standing stores.standing (holds_rest c.args.journal.now stores.standing stores.rests)))

@@ -9,7 +9,7 @@ pub returns-in-Ok-list-clause-found : goal.returns-in-Ok-list-clause-found
 returns-in-Ok-list-clause-found g c =
     let found = c.in-Ok.ensures.found in
     let retains : c.open.new.sink.messages.entries ≡ retained_after found.0 = found.1 [] c.new-retained.ensures in
-    (found.0, found.3, c.in-Ok-list.ensures.list ∙ ap (λ (r : List (List ℕ × MessageValue)). map found_of r) retains)
+    (found.0, found.2, found.3, c.in-Ok-list.ensures.list ∙ ap (λ (r : List (List ℕ × MessageValue)). map found_of r) retains)
 
 pub returns-in-Ok-list-clause-stored : goal.returns-in-Ok-list-clause-stored
 returns-in-Ok-list-clause-stored g c =

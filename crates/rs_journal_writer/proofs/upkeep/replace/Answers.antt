@@ -16,7 +16,7 @@ returns-in-Ok-clause-sure g c = λ _ before stores lists.
 pub returns-in-Ok-clause-crash : goal.returns-in-Ok-clause-crash
 returns-in-Ok-clause-crash g c = λ before stores lists.
     may_replaced g.met.D.Disk.seen_may_stay c.args.journal.now c.push_anew.new.journal c.commit.new.self c.args.found.items before c.push_anew.ensures.crash c.in_default.ensures.pushed
-    c.commit.ensures.crash stores lists
+    c.in_default.ensures.formed c.commit.ensures.crash stores lists
 
 pub returns-in-Err-commit-clause-sure : goal.returns-in-Err-commit-clause-sure
 returns-in-Err-commit-clause-sure g c = λ refused before stores _.
@@ -26,4 +26,4 @@ returns-in-Err-commit-clause-sure g c = λ refused before stores _.
 pub returns-in-Err-commit-clause-crash : goal.returns-in-Err-commit-clause-crash
 returns-in-Err-commit-clause-crash g c = λ before stores lists.
     may_replaced g.met.D.Disk.seen_may_stay c.args.journal.now c.push_anew.new.journal c.commit.new.self c.args.found.items before c.push_anew.ensures.crash c.in_default.ensures.pushed
-    c.commit.ensures.crash stores lists
+    c.in_default.ensures.formed c.commit.ensures.crash stores lists
