@@ -10,6 +10,9 @@ use Rattle.clap.specs.declared.builder.value_parser.ValueParser.TheVariants.{Uns
 use Rattle.rs_message.specs.declared.entry.TheConstants.{MAX_PLACES}
 use Rattle.rs_store.specs.declared.limit.TheConstants.{MAX_TOPICS}
 use Rattle.rs_program.specs.declared.words.commands.TheConstants.{MAX_CLIENTS, MAX_CONNECTIONS, MAX_IDLE}
+use Rattle.rs_tcp_server.specs.declared.keeping.SyncPolicy.{SyncPolicy}
+use Rattle.rs_tcp_server.specs.declared.keeping.SyncPolicy.TheVariants.{Always, Second, Never}
+use Rattle.rs_program.specs.declared.words.Keep.{Keep}
 use Rattle.rs_program.specs.declared.words.Run.{Run}
 use Rattle.rs_program.specs.declared.words.Run.TheVariants.{Pipe, Listen}
 
@@ -65,13 +68,21 @@ log_option = record (new_rule (codes "log")) { long = Some (codes "log"); action
 abbrev pub metrics_option : Rule
 metrics_option = record (new_rule (codes "metrics")) { long = Some (codes "metrics"); value_names = 1 }
 
+-- `--keep FOLDER`
+abbrev pub keep_option : Rule
+keep_option = record (new_rule (codes "keep")) { long = Some (codes "keep"); value_names = 1 }
+
+-- `--sync WHEN`
+abbrev pub sync_option : Rule
+sync_option = record (new_rule (codes "sync")) { long = Some (codes "sync"); value_names = 1 }
+
 abbrev pub pipe_words : App
 pipe_words = with_rule (with_rule (new_app (codes "pipe")) hex_option) at_option
 
 abbrev pub listen_words : App
-listen_words = with_rule (with_rule (with_rule (with_rule (with_rule (with_rule (with_rule (with_rule (with_rule (with_rule (new_app (codes "listen"))
-    address_option) places_option) clients_option) topics_option) memory_option) connections_option) endless_option) idle_option) log_option)
-    metrics_option
+listen_words = with_rule (with_rule (with_rule (with_rule (with_rule (with_rule (with_rule (with_rule (with_rule (with_rule (with_rule (with_rule
+    (new_app (codes "listen")) address_option) places_option) clients_option) topics_option) memory_option) connections_option) endless_option)
+    idle_option) log_option) metrics_option) keep_option) sync_option
 
 -- the words after the program's name: one of its commands, with its options
 abbrev pub rstored_words : App
@@ -138,22 +149,35 @@ abbrev pub IsEndOf : List Row → Option ℕ → Type 0
 IsEndOf rows connections = IsNumberGiven rows (codes "connections") 1 MAX_CONNECTIONS connections
     × IsFlagOf rows (codes "endless") (not (is_some connections))
 
+-- the name of a policy
+abbrev pub policy_text : SyncPolicy → Text
+policy_text Always = codes "always"
+policy_text Second = codes "second"
+policy_text Never = codes "never"
+
+-- The messages are kept in the folder that `--keep` names, by the policy that `--sync` names, or if it was not given by `always`. Nothing
+-- keeps them, if neither was given.
+abbrev pub IsKeepOf : List Row → Option Keep → Type 0
+IsKeepOf rows (Some keep) = (first_of (codes "keep") rows ≡ Some (string_bytes keep.folder))
+    × (unwrap_or (first_of (codes "sync") rows) (codes "always") ≡ policy_text keep.sync)
+IsKeepOf rows None = (first_of (codes "keep") rows ≡ None) × (first_of (codes "sync") rows ≡ None)
+
 -- what the values of a command's options ask for
 abbrev pub IsRunOf : Text → List Row → Run → Type 0
 IsRunOf name rows (Pipe hex at) = (name ≡ codes "pipe") × IsNumberOf rows (codes "at") 0 (2 ^ 64 - 1) at × IsFlagOf rows (codes "hex") hex
-IsRunOf name rows (Listen address places clients topics memory connections idle log metrics) = (name ≡ codes "listen")
+IsRunOf name rows (Listen address places clients topics memory connections idle log metrics keep) = (name ≡ codes "listen")
     × (first_of (codes "address") rows ≡ Some (string_bytes address))
     × IsNumberOf rows (codes "places") 1 MAX_PLACES places × AreClientsOf rows places clients
     × IsNumberOf rows (codes "topics") 1 MAX_TOPICS topics
     × IsSizeGiven rows (codes "memory") memory
     × IsEndOf rows connections
     × IsNumberGiven rows (codes "idle") 1 MAX_IDLE idle × IsFlagOf rows (codes "log") log
-    × (first_of (codes "metrics") rows ≡ option_map string_bytes metrics)
+    × (first_of (codes "metrics") rows ≡ option_map string_bytes metrics) × IsKeepOf rows keep
 
 -- each number is in its range
 abbrev pub IsInRange : Run → Type 0
 IsInRange (Pipe hex at) = at ≤ 2 ^ 64 - 1
-IsInRange (Listen address places clients topics memory connections idle log metrics) = (1 ≤ places) × (places ≤ MAX_PLACES) × (places ≤ clients)
+IsInRange (Listen address places clients topics memory connections idle log metrics keep) = (1 ≤ places) × (places ≤ MAX_PLACES) × (places ≤ clients)
     × (clients ≤ MAX_CLIENTS) × (1 ≤ topics) × (topics ≤ MAX_TOPICS) × IfSome memory (λ bytes. (1 ≤ bytes) × (bytes < 2 ^ 64))
     × IfSome connections (λ count. (1 ≤ count) × (count ≤ MAX_CONNECTIONS)) × IfSome idle (λ seconds. (1 ≤ seconds) × (seconds ≤ MAX_IDLE))
 

@@ -15,6 +15,7 @@ abbrev pub fault_status : RunFault → ℕ
 fault_status (run.Words fault) = words_status fault
 fault_status (run.Pipe fault) = pipe_status fault
 fault_status (run.Listen reason) = 1
+fault_status (run.Keep reason) = 1
 fault_status (run.FewThreads threads places) = 1
 fault_status (run.FewClients served clients) = 1
 fault_status run.Unsettled = 1

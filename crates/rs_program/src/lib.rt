@@ -10,4 +10,4 @@ mod program;
 mod words;
 
 pub use program::{RunFault, run};
-pub use words::{MAX_CLIENTS, MAX_CONNECTIONS, MAX_IDLE, Run, WordsFault, read_words};
+pub use words::{Keep, MAX_CLIENTS, MAX_CONNECTIONS, MAX_IDLE, Run, WordsFault, read_words};

@@ -9,9 +9,8 @@ use crate::listening::listen;
 use crate::words::{Run, WordsFault, read_words, refused};
 use rs_program_pipe::{OwnGate, PipeFault, pipe};
 use rs_server::Served;
-use rs_tcp_server::{ListenFault, Settings, Summary};
+use rs_tcp_server::{KeepFault, ListenFault, OpenFiles, Settings, Summary};
 use std::alloc::Global;
-use std::env;
 use std::env::Env;
 use std::io::{ErrorKind, Read, Write};
 use std::net::{Net, TcpListener, TcpStream};
@@ -19,6 +18,7 @@ use std::rt::Files;
 use std::sync::Wait;
 use std::thread::Threads;
 use std::time::{Clock, Duration};
+use std::{env, fs};
 use thiserror::Error;
 
 /// Why the program did not serve what it was asked to.
@@ -33,6 +33,9 @@ pub enum RunFault {
     /// No client can be served, and why, if it is to be told.
     #[error("cannot listen")]
     Listen(Option<ListenFault>),
+    /// The folder does not keep the messages, and why, if it is to be told. No client was served.
+    #[error("cannot keep")]
+    Keep(Option<KeepFault>),
     /// All connections were served, by fewer threads than were asked for, at each place one.
     #[error("{threads} of {places} places had a thread")]
     FewThreads {
@@ -63,6 +66,7 @@ impl RunFault {
             RunFault::Words(fault) => fault.status(),
             RunFault::Pipe(fault) => fault.status(),
             RunFault::Listen(_)
+            | RunFault::Keep(_)
             | RunFault::FewThreads { .. }
             | RunFault::FewClients { .. }
             | RunFault::Unsettled => 1,
@@ -71,8 +75,9 @@ impl RunFault {
 }
 
 /// Runs the program by its command line, and gives its exit status: 0 if the connection or all connections ended, or help was asked
-/// for, 1 if no client can be served, a place had no thread, fewer clients could be served at the same time than were asked for, not all
-/// changes are known to be taken, or reading, writing or memory failed, 2 if the command line or a line of the input is refused.
+/// for, 1 if no client can be served or a folder does not keep the messages, a place had no thread, fewer clients could be served at the same
+/// time than were asked for, not all changes are known to be taken, or reading, writing or memory failed, 2 if the command line or a line
+/// of the input is refused.
 ///
 /// `pipe` is over this input and output. All else that is printed, help, faults and the lines of `listen`, goes to the standard
 /// streams of `rt`.
@@ -81,7 +86,8 @@ where
     H: Clock
         + Net<Listener = TcpListener, Stream = TcpStream>
         + Threads
-        + Files
+        + Files<File = fs::File>
+        + OpenFiles
         + Wait
         + Env
         + AllocGlobal
@@ -111,7 +117,8 @@ where
     H: Clock
         + Net<Listener = TcpListener, Stream = TcpStream>
         + Threads
-        + Files
+        + Files<File = fs::File>
+        + OpenFiles
         + Wait
         + Env
         + AllocGlobal
@@ -138,6 +145,7 @@ where
                 idle,
                 log,
                 metrics,
+                keep,
             },
         ) => {
             let settings = Settings {
@@ -149,8 +157,9 @@ where
                 clients,
                 idle: idle.map(Duration::from_secs),
             };
-            match listen(rt, address.as_str(), metrics, settings, log) {
+            match listen(rt, address.as_str(), metrics, keep, settings, log) {
                 Ok(summary) => server_outcome(summary, places.get(), clients),
+                Err(ListenFault::Keep(fault)) => Err(RunFault::Keep(log.then_some(fault))),
                 Err(fault) => Err(RunFault::Listen(log.then_some(fault))),
             }
         }
@@ -202,8 +211,10 @@ fn report<H: Print + Eprint>(rt: &H, fault: &RunFault) {
         RunFault::Words(WordsFault::Refused(text)) => eprint!(rt; "{text}"),
         RunFault::Words(WordsFault::NoMemory) => eprintln!(rt; "rstored: out of memory"),
         RunFault::Listen(Some(reason)) => eprintln!(rt; "rstored: {fault}\nrstored: {reason}"),
+        RunFault::Keep(Some(reason)) => eprintln!(rt; "rstored: {fault}\nrstored: {reason}"),
         RunFault::Pipe(_)
         | RunFault::Listen(None)
+        | RunFault::Keep(None)
         | RunFault::FewThreads { .. }
         | RunFault::FewClients { .. }
         | RunFault::Unsettled => eprintln!(rt; "rstored: {fault}"),

@@ -17,8 +17,18 @@ use clap::ArgMatches;
 use clap::error::ErrorKind;
 use rs_message::PlaceCount;
 use rs_store::TopicLimit;
+use rs_tcp_server::SyncPolicy;
 use std::alloc::Global;
 use thiserror::Error;
+
+/// What keeps the messages of a server.
+#[derive(Debug, Drop, PartialEq, Eq)]
+pub struct Keep {
+    /// The folder, as it was given.
+    pub folder: String,
+    /// When changes are synced to the disk.
+    pub sync: SyncPolicy,
+}
 
 /// What the command line asks for.
 #[derive(Debug, Drop, PartialEq, Eq)]
@@ -50,6 +60,8 @@ pub enum Run {
         log: bool,
         /// The address by which metrics are told, as it was given. To nobody, if it is not given.
         metrics: Option<String>,
+        /// What keeps the messages. They are lost at the end, if it is not given.
+        keep: Option<Keep>,
     },
 }
 

@@ -14,6 +14,8 @@ use Rattle.std.proofs.Crossing.{Arc-send}
 use Rattle.std.proofs.alloc.Global.TheSendSync as heap
 use Rattle.std.specs.contracts.option.Option as Option
 use Rattle.std.specs.contracts.time.Duration as Duration
+use Rattle.rs_tcp_server.proofs.Files.{folder_send}
+use Rattle.rs_tcp_server.specs.contracts.keeping.KeptFolder as KeptFolder
 use Rattle.rs_tcp_server.specs.contracts.server.Server as Server
 
 clients_send : IsSend u16
@@ -26,4 +28,4 @@ number_send : IsSend u64
 number_send = search sendable
 
 pub server_send : IsSend Server.the_row
-server_send = recorded_send Server.the_field.row _ _ Server.the_type.to_one (struct_send (shape Server.the_type) (heap.the_field_send, (Arc-send Listener.the_row listener.the_send listener.the_sync, (blank_send, (count.the_send, (clients_send, (idle_send, (number_send, (topics.the_send, (option.the_field_send u64 number_send, (option.the_field_send MetricsServer.the_row metrics.the_send, tt)))))))))))
+server_send = recorded_send Server.the_field.row _ _ Server.the_type.to_one (struct_send (shape Server.the_type) (heap.the_field_send, (Arc-send Listener.the_row listener.the_send listener.the_sync, (blank_send, (count.the_send, (clients_send, (idle_send, (number_send, (topics.the_send, (option.the_field_send u64 number_send, (option.the_field_send MetricsServer.the_row metrics.the_send, (option.the_field_send KeptFolder.the_row folder_send, tt))))))))))))

@@ -1,5 +1,6 @@
 //! What the log tells of what the store lacks.
 
+use crate::journal_log::JournalLog;
 use log::{Log, info, warn};
 use rs_intake_line::{Fullness, Lack};
 use std::sync::Arc;
@@ -9,6 +10,8 @@ use std::sync::atomic::{AtomicU64, Ordering};
 #[derive(Drop)]
 pub struct FullLog {
     fullness: Arc<Fullness>,
+    // That of the journal, if there is one.
+    journal: Option<JournalLog>,
     // What the store lacked by the last line.
     told: Fullness,
     // The time of the last line.
@@ -16,20 +19,25 @@ pub struct FullLog {
 }
 
 impl FullLog {
-    /// No line was written yet.
-    pub fn new(fullness: Arc<Fullness>) -> FullLog {
+    /// No line was written yet. With a journal it tells of that, too.
+    pub fn new(fullness: Arc<Fullness>, journal: Option<JournalLog>) -> FullLog {
         FullLog {
             fullness,
+            journal,
             told: Fullness::new(),
             last: AtomicU64::new(u64::MAX),
         }
     }
 
     /// Writes a line if the store has come to lack topics or memory, or takes messages again, but at most one a second. What is not told
-    /// then is told later, if it is still so.
+    /// then is told later, if it is still so. The same of a journal.
+    ///
+    /// A change that the journal refuses is to the store as one for which there is no memory. So nothing is told of memory while the journal
+    /// refuses.
     pub(crate) fn update<H: Log>(&self, rt: &H, time: u64) {
         let lack = self.fullness.lack();
-        if self.told.lack() == lack {
+        let is_of_journal = self.update_journal(rt, time);
+        if self.told.lack() == lack || (is_of_journal && lack == Lack::Memory) {
             return;
         }
         if self.last.swap(time, Ordering::SeqCst) == time {
@@ -39,6 +47,17 @@ impl FullLog {
         if before != lack {
             tell(rt, time, before, lack);
         }
+    }
+}
+
+impl FullLog {
+    /// Writes the line of the journal, if one is due, and tells whether it refuses changes.
+    fn update_journal<H: Log>(&self, rt: &H, time: u64) -> bool {
+        let Some(journal) = &self.journal else {
+            return false;
+        };
+        journal.update(rt, time);
+        journal.is_lacking()
     }
 }
 

@@ -5,25 +5,33 @@ ghost use Rattle.rs_message.specs.declared.entry.TheConstants.{MAX_LINES};
 ghost use Rattle.rs_intake.specs.declared.cause.Cause.{Cause};
 ghost use Rattle.rs_places.specs.Store.{IsStoreRun};
 ghost use Rattle.rs_places_steps.specs.Turns.{Connections};
+ghost use Rattle.rs_tcp_server.specs.Beginning.{first_in, most_held_in};
 
 use crate::fault::ListenFault;
 use crate::full_log::FullLog;
+use crate::journal_log::JournalLog;
+use crate::journal_state::JournalState;
+use crate::journal_watch::first_numbers;
+use crate::keeping::{KeptFolder, SyncPolicy, bytes_of_all, check_limits, open_folder};
 use crate::opening::turns;
 use crate::polling::time_polls;
-use crate::telling::{Telling, descriptors_to_tell, end_telling, new_metrics, start_telling};
+use crate::serving::serve;
+use crate::telling::{Telling, descriptors_to_tell, new_metrics, start_telling};
 use crate::turn::{ClientWord, ListenTurn};
-use log::{Log, warn};
+use log::{Log, info, warn};
 use rs_intake::{BlankQueue, blank_queue};
+use rs_journal::OpenFiles;
 use rs_message::{LineCount, MAX_LINES, PlaceCount};
-use rs_metrics::{Limits, share};
+use rs_metrics::{JournalMeter, Limits, Metrics, share};
 use rs_metrics_server::MetricsServer;
-use rs_places::{StoreEnd, run_store};
+use rs_places::StoreEnd;
 use rs_places_pool::Runner;
 use rs_places_steps::FreeTurn;
 use rs_store::TopicLimit;
-use rs_tcp_sockets::{Listener, SocketWatch, descriptor_limit, waiting_limit};
+use rs_tcp_sockets::{Listener, SocketWatch, SystemClock, descriptor_limit, waiting_limit};
 use rs_version::Blank;
 use std::alloc::{AllocError, Global};
+use std::fs;
 use std::net::{Net, TcpListener, TcpStream};
 use std::rt::Files;
 use std::sync::{Arc, Wait};
@@ -45,7 +53,9 @@ pub struct Server {
     memory: Option<u64>,
     // What tells its numbers, if anybody is told.
     metrics: Option<MetricsServer>,
-    ghost each: { places ≡ blank.places },
+    // The folder that keeps the messages, if one does.
+    kept: Option<KeptFolder>,
+    ghost each: { (places ≡ blank.places) × (topics ≡ blank.limit) },
 }
 
 /// What a server is to be.
@@ -119,6 +129,7 @@ impl Server {
                     topics,
                     memory,
                     metrics: None,
+                    kept: None,
                 })
             }
             Err(error) => Err(ListenFault::from(error)),
@@ -149,6 +160,7 @@ impl Server {
         address: &str,
     ) -> Result<Server, ListenFault>
         ensures same { IfOk result (λ server. (server.blank.limit ≡ self.blank.limit) × (server.clients ≡ self.clients) × (server.places ≡ self.places)) }
+        ensures kept { IfOk result (λ server. server.kept ≡ self.kept) }
     {
         let Server {
             alloc,
@@ -161,6 +173,7 @@ impl Server {
             topics,
             memory,
             metrics: _before,
+            kept,
         } = self;
         match MetricsServer::bind(rt, alloc, address) {
             Ok(metrics) => Ok(Server {
@@ -174,9 +187,55 @@ impl Server {
                 topics,
                 memory,
                 metrics: Some(metrics),
+                kept,
             }),
             Err(error) => Err(ListenFault::Metrics(error)),
         }
+    }
+
+    /// The same server, whose messages this folder keeps. It is made if it is missing. The server begins with the messages that it keeps, and
+    /// while it runs, a change is in the folder before anybody is told of it. Until it ends, no other process can have the folder.
+    ///
+    /// # Errors
+    ///
+    /// [`Keep`](ListenFault::Keep) if the folder cannot be made, or its files cannot be made, opened or read, are of another program or
+    /// version, or damaged, or another process has them, or if the messages are more than the store may hold.
+    pub fn with_journal<H: OpenFiles + Files<File = fs::File> + Clock>(
+        self,
+        rt: &H,
+        folder: &str,
+        sync: SyncPolicy,
+    ) -> Result<Server, ListenFault>
+        ensures same { IfOk result (λ server. (server.blank.limit ≡ self.blank.limit) × (server.clients ≡ self.clients) × (server.places ≡ self.places)) }
+    {
+        let Server {
+            alloc,
+            listener,
+            blank,
+            places,
+            clients,
+            idle,
+            waiting,
+            topics,
+            memory,
+            metrics,
+            kept: _before,
+        } = self;
+        let kept = open_folder(rt, alloc, folder, sync)?;
+        check_limits(kept.given(), topics, memory)?;
+        Ok(Server {
+            alloc,
+            listener,
+            blank,
+            places,
+            clients,
+            idle,
+            waiting,
+            topics,
+            memory,
+            metrics,
+            kept: Some(kept),
+        })
     }
 
     /// The address that was bound for metrics, with its port, if one was.
@@ -206,21 +265,24 @@ impl Server {
     /// full or lacks memory, one when it takes new topics or messages again, and before them all a warning if there are too few descriptors, or
     /// if too few clients may wait to be accepted.
     ///
-    /// The number of changes is that of a run of the store with so many clients, as [`run_store`] says it. The clause is weak: any number meets
-    /// it, since it says nothing of what the clients sent.
+    /// With a folder that keeps the messages, the log tells at the start how many these are, later how the disk fares, and when what is kept
+    /// was shortened.
+    ///
+    /// The number of changes is that of a run of the store with so many clients, as [`run_store`](rs_places::run_store) says it, which began
+    /// with what the folder kept. The clause is weak: any number meets it, since it says nothing of what the clients sent.
     ///
     /// # Errors
     ///
     /// [`NoMemory`](ListenFault::NoMemory) if memory is refused for the store, the queue, the gates or the threads,
-    /// [`NoThread`](ListenFault::NoThread) if the thread of the store's writer, that of the first client or the first lane, or that for metrics
-    /// cannot be started, [`Address`](ListenFault::Address) if the descriptors are refused by which clients are watched, or by which the thread
-    /// for metrics is ended. Then no client was served, but no clause says so.
+    /// [`NoThread`](ListenFault::NoThread) if the thread of the store's writer, that of the first client or the first lane, that for metrics
+    /// or that which syncs cannot be started, [`Address`](ListenFault::Address) if the descriptors are refused by which clients are watched, or
+    /// by which one of these threads is ended. Then no client was served, but no clause says so.
     pub fn run<H: Clock + Log + Threads + Wait + Copy + Send + Sync + 'static>(
         self,
         rt: H,
     ) -> Result<Summary, ListenFault>
         ensures run { IfOk result (λ summary. (before : List Connections) × (after : List Connections) × (version : ℕ) × (cause : Cause)
-            × IsStoreRun 1 self.blank.limit summary.clients [] before after version summary.changes cause) }
+            × IsStoreRun (most_held_in self.kept) self.blank.limit summary.clients (first_in self.kept) before after version summary.changes cause) }
         ensures alone { IfOk result (λ summary. self.clients ≤ self.places → summary.clients ≡ self.places) }
         ensures more { IfOk result (λ summary. self.places < self.clients
             → (self.places < summary.clients) × (summary.clients ≤ self.clients)) }
@@ -236,25 +298,119 @@ impl Server {
             topics,
             memory,
             metrics: server,
+            kept,
         } = self;
         let alone = u16::from(places.get());
-        let lines = line_count(&rt, clients, alone, descriptors_to_tell(&server));
+        let others = descriptors_to_tell(&server).saturating_add(descriptors_to_keep(&kept));
+        let lines = line_count(&rt, clients, alone, others);
         let limits = Limits {
             clients: u64::from(lines.get()),
             topics: u64::from(topics.get()),
             bytes: memory,
         };
         tell_of_waiting(&rt, lines.get(), waiting);
-        let (queue, turns, runner, telling) = prepare(
-            rt, alloc, listener, lines, alone, idle, limits, server,
+        tell_of_kept(&rt, &kept);
+        let end = serve_lines(
+            rt, alloc, listener, blank, topics, kept, lines, alone, idle, limits, server,
         )?;
-        let end = serve(rt, alloc, blank, queue, turns, runner, telling)?;
         Ok(Summary {
             threads: end.threads,
             clients: lines.get(),
             changes: end.changes,
         })
     }
+}
+
+/// Serves clients by so many lines.
+fn serve_lines<H: Clock + Log + Threads + Wait + Copy + Send + Sync + 'static>(
+    rt: H,
+    alloc: Global,
+    listener: Arc<Listener>,
+    blank: Blank,
+    topics: TopicLimit,
+    kept: Option<KeptFolder>,
+    lines: LineCount,
+    places: u16,
+    idle: Option<Duration>,
+    limits: Limits,
+    server: Option<MetricsServer>,
+) -> Result<StoreEnd<ListenTurn<H>>, ListenFault>
+    requires { topics ≡ blank.limit }
+    ensures { IfOk result (λ end. (before : List Connections) × (after : List Connections)
+        × IsStoreRun (most_held_in kept) blank.limit lines (first_in kept) before after end.version end.changes end.cause) }
+{
+    let (ready, state) = prepare_kept(
+        rt, alloc, listener, &kept, lines, places, idle, limits, server,
+    )?;
+    let (queue, turns, runner, telling) = ready;
+    serve(
+        rt, alloc, blank, topics, kept, state, queue, turns, runner, telling,
+    )
+}
+
+/// Makes ready to serve so many clients, and to tell how the journal fares.
+fn prepare_kept<H: Clock + Log + Threads + Wait + Copy + Send + Sync + 'static>(
+    rt: H,
+    alloc: Global,
+    listener: Arc<Listener>,
+    kept: &Option<KeptFolder>,
+    lines: LineCount,
+    places: u16,
+    idle: Option<Duration>,
+    limits: Limits,
+    server: Option<MetricsServer>,
+) -> Result<(Ready<H>, Arc<JournalState>), ListenFault>
+    ensures { IfOk result (λ r. (r.0.0.places ≡ lines) × (length r.0.1.items ≡ lines)) }
+{
+    let metrics = new_metrics(&rt, alloc, &server, limits)?;
+    let state = new_state(alloc, &metrics, kept)?;
+    let journal = new_journal_log(kept, &state)?;
+    let ready = prepare(
+        rt, alloc, listener, lines, places, idle, metrics, journal, server,
+    )?;
+    Ok((ready, state))
+}
+
+/// How many descriptors are needed to keep messages. None, if none are kept.
+fn descriptors_to_keep(kept: &Option<KeptFolder>) -> u8 {
+    match kept {
+        Some(kept) => kept.descriptors(),
+        None => 0,
+    }
+}
+
+/// How a journal fares that is opened and not used yet. If there is one, the metrics have its numbers from now on.
+fn new_state(
+    alloc: Global,
+    metrics: &Option<Arc<Metrics>>,
+    kept: &Option<KeptFolder>,
+) -> Result<Arc<JournalState>, AllocError> {
+    let state = JournalState::new(JournalMeter::new(share(metrics)?));
+    if let Some(kept) = kept {
+        state.show(first_numbers(kept.page_count()));
+    }
+    Arc::new(alloc, state).map_err(|_| AllocError)
+}
+
+/// What the log is told of the journal, if there is one.
+fn new_journal_log(
+    kept: &Option<KeptFolder>,
+    state: &Arc<JournalState>,
+) -> Result<Option<JournalLog>, AllocError> {
+    match kept {
+        Some(_) => Ok(Some(JournalLog::new(Arc::try_clone(state)?))),
+        None => Ok(None),
+    }
+}
+
+/// Says how many topics the folder keeps, and how many bytes their messages count.
+fn tell_of_kept<H: Clock + Log>(rt: &H, kept: &Option<KeptFolder>) {
+    let Some(kept) = kept else {
+        return;
+    };
+    let given = kept.given();
+    let (time, topics, bytes) = (SystemClock::new().now(rt), given.len(), bytes_of_all(given));
+    info!(rt; target: "rstored", "{time} the folder keeps {topics} topics, {bytes} bytes");
 }
 
 /// What is there before the first client is served: the queue of the store, a turn for each client, what serves them, and the thread that
@@ -274,14 +430,14 @@ fn prepare<H: Clock + Log + Threads + Wait + Copy + Send + Sync + 'static>(
     lines: LineCount,
     places: u16,
     idle: Option<Duration>,
-    limits: Limits,
+    metrics: Option<Arc<Metrics>>,
+    journal: Option<JournalLog>,
     server: Option<MetricsServer>,
 ) -> Result<Ready<H>, ListenFault>
     ensures { IfOk result (λ ready. (ready.0.places ≡ lines) × (length ready.1.items ≡ lines)) }
 {
-    let metrics = new_metrics(&rt, alloc, &server, limits)?;
     let queue = blank_queue(alloc, lines)?;
-    let full = FullLog::new(queue.fullness()?);
+    let full = FullLog::new(queue.fullness()?, journal);
     let queue = queue
         .with_polls(time_polls(&rt, alloc))
         .with_metrics(share(&metrics)?);
@@ -302,28 +458,6 @@ fn prepare<H: Clock + Log + Threads + Wait + Copy + Send + Sync + 'static>(
     let runner = make_runner(rt, alloc, listener, lines.get(), places, idle)?;
     let telling = start_telling(rt, alloc, server, metrics)?;
     Ok((queue, turns, runner, telling))
-}
-
-/// Runs the store, and ends then the thread that tells its numbers.
-fn serve<H: Clock + Log + Threads + Wait + Copy + Send + Sync + 'static>(
-    rt: H,
-    alloc: Global,
-    blank: Blank,
-    queue: BlankQueue,
-    turns: Vec<FreeTurn<ListenTurn<H>>>,
-    runner: Runner<SocketWatch<H>>,
-    telling: Option<Telling>,
-) -> Result<StoreEnd<ListenTurn<H>>, ListenFault>
-    requires { queue.places ≡ length turns.items }
-    ensures { IfOk result (λ end. (before : List Connections) × (after : List Connections)
-        × IsStoreRun 1 blank.limit queue.places [] before after end.version end.changes end.cause) }
-{
-    let end = run_store(rt, alloc, blank, Vec::new(alloc), queue, turns, runner);
-    end_telling(&rt, telling);
-    match end {
-        Ok(end) => Ok(end),
-        Err(fault) => Err(ListenFault::from(fault)),
-    }
 }
 
 /// Warns if fewer clients may wait to be accepted than are served at the same time. If all connect at once, the system drops the packets of
@@ -368,8 +502,8 @@ fn wanted_clients(clients: u16, places: u16) -> u16
     }
 }
 
-/// How many clients are served, each with a line: as many as wanted, or fewer if there are too few descriptors. To tell numbers takes `told`
-/// of these.
+/// How many clients are served, each with a line: as many as wanted, or fewer if there are too few descriptors. To tell numbers and to keep
+/// messages takes `told` of these.
 fn line_count<H: Log>(rt: &H, clients: u16, places: u16, told: u8) -> LineCount
     requires some { 0 < places }
     requires small { places < MAX_LINES }
@@ -384,7 +518,8 @@ fn line_count<H: Log>(rt: &H, clients: u16, places: u16, told: u8) -> LineCount
 }
 
 /// How many descriptors are needed beside those of the clients: four for the listener and the standard streams, and if there are more
-/// clients than places, one for each place and one more, by which clients are watched. To tell numbers takes `told` more.
+/// clients than places, one for each place and one more, by which clients are watched. To tell numbers and to keep messages takes `told`
+/// more.
 fn other_descriptors(clients: u16, places: u16, told: u8) -> u64
     ensures more { places < clients → result ≡ places + 5 + told }
     ensures no_more { clients ≤ places → result ≡ 4 + told }

@@ -4,9 +4,8 @@ use kit_test::{CONNACK, CONNECT, DISCONNECT, REPLAYED, SUBSCRIBED, is_shown};
 use log::Log;
 use rs_message::PlaceCount;
 use rs_store::TopicLimit;
-use rs_tcp_server::{ListenFault, Server, Settings, Summary};
+use rs_tcp_server::{KeepFault, ListenFault, OpenFiles, Server, Settings, Summary, SyncPolicy};
 use std::alloc::Global;
-use std::io;
 use std::io::{ErrorKind, Read, Write};
 use std::net::{Net, TcpListener, TcpStream};
 use std::rt::Files;
@@ -14,6 +13,7 @@ use std::sync::Wait;
 use std::test::Fail;
 use std::thread::{JoinHandle, Threads, sleep, spawn};
 use std::time::{Clock, Duration, Instant};
+use std::{fs, io};
 
 /// PUBLISH at QoS 1 of a/b, retained, identifier 1.
 const PUBLISH: &[u8] = b"\x33\x09\x00\x03a/b\x00\x01\x00x";
@@ -252,6 +252,21 @@ fn faults_have_a_text(rt: HostRuntime) {
             ListenFault::TooManyTopics,
             "more topics are given than the store may hold; raise the limit",
         ),
+        (
+            ListenFault::Keep(KeepFault::InUse),
+            "another server keeps its messages in the folder; stop it, or name another folder",
+        ),
+        (
+            ListenFault::Keep(KeepFault::TooManyTopics {
+                kept: 11,
+                limit: 10,
+            }),
+            "the folder keeps 11 topics and the store may hold 10; raise --topics",
+        ),
+        (
+            ListenFault::Keep(KeepFault::TooManyBytes { kept: 9, limit: 8 }),
+            "the messages in the folder count 9 bytes and may count 8; raise --memory",
+        ),
         (ListenFault::NoMemory, "out of memory"),
         (ListenFault::NoThread, "no thread can be started"),
     ];
@@ -272,6 +287,52 @@ fn clients_share_a_store(rt: HostRuntime) -> Result<(), Fail> {
         let (went, found) = publish_and_read(rt, rt.alloc(), places)?;
         assert!(rt; went);
         assert!(rt; found == Some(summary));
+    }
+    Ok(())
+}
+
+/// Whether a server that keeps its messages in this folder answers so, and ends then.
+fn answers_kept<
+    H: Clock
+        + Log
+        + Net<Listener = TcpListener, Stream = TcpStream>
+        + Threads
+        + Files<File = fs::File>
+        + OpenFiles
+        + AllocGlobal
+        + Wait
+        + Copy
+        + Send
+        + Sync
+        + 'static,
+>(
+    rt: H,
+    alloc: Global,
+    folder: &str,
+    sync: SyncPolicy,
+    packet: &[u8],
+    answer: &[u8],
+) -> Result<bool, Fail> {
+    let server = Server::bind(&rt, alloc, "127.0.0.1:0", settings(1, 1, 1, None)?)?;
+    let server = server.with_journal(&rt, folder, sync)?;
+    let address = server.address()?;
+    let serving = run(rt, server)?;
+    let went = is_served(&rt, address.as_str(), packet, answer);
+    Ok(went && serving.join(&rt).is_some())
+}
+
+#[test]
+fn a_folder_keeps_the_messages(rt: HostRuntime) -> Result<(), Fail> {
+    let [first, second] = PUBLISHES;
+    for (folder, sync) in [
+        ("kept-always", SyncPolicy::Always),
+        ("kept-second", SyncPolicy::Second),
+        ("kept-never", SyncPolicy::Never),
+    ] {
+        assert!(rt; answers_kept(rt, rt.alloc(), folder, sync, first, PUBACK)?);
+        assert!(rt; answers_kept(rt, rt.alloc(), folder, sync, second, PUBACK)?);
+        assert!(rt; answers_kept(rt, rt.alloc(), folder, sync, SUBSCRIBE, REPLAY)?);
+        fs::remove_dir_all(&rt, folder)?;
     }
     Ok(())
 }

@@ -46,6 +46,7 @@ fn a_server_ends_with_a_status_and_a_text(rt: HostRuntime) {
     let text = "not all changes are known to be taken";
     assert!(rt; ends_with(rt.alloc(), &RunFault::Unsettled, 1, text));
     assert!(rt; ends_with(rt.alloc(), &RunFault::Listen(None), 1, "cannot listen"));
+    assert!(rt; ends_with(rt.alloc(), &RunFault::Keep(None), 1, "cannot keep"));
 }
 
 // As `pipe_ends_with`.

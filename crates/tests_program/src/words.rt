@@ -1,8 +1,9 @@
 //! Command lines.
 
 use rs_message::{MAX_PLACES, PlaceCount};
-use rs_program::{MAX_CLIENTS, MAX_CONNECTIONS, MAX_IDLE, Run, WordsFault, read_words};
+use rs_program::{Keep, MAX_CLIENTS, MAX_CONNECTIONS, MAX_IDLE, Run, WordsFault, read_words};
 use rs_store::{MAX_TOPICS, TopicLimit};
+use rs_tcp_server::SyncPolicy;
 use std::alloc::{AllocError, Global};
 use std::test::Fail;
 
@@ -144,8 +145,44 @@ fn words_ask_to_listen(rt: HostRuntime) -> Result<(), Fail> {
                 Some(metrics) => Some(String::from_str(alloc, metrics)?),
                 None => None,
             },
+            keep: None,
         };
         assert!(rt; asks(alloc, command, &wanted)?, "{command}");
+    }
+    Ok(())
+}
+
+#[test]
+fn words_ask_to_keep(rt: HostRuntime) -> Result<(), Fail> {
+    let alloc = rt.alloc();
+    let commands = [
+        ("--keep x", "x", SyncPolicy::Always),
+        (
+            "--keep=/var/lib/x --sync=always",
+            "/var/lib/x",
+            SyncPolicy::Always,
+        ),
+        ("--sync second --keep .", ".", SyncPolicy::Second),
+        ("--keep .. --sync never", "..", SyncPolicy::Never),
+    ];
+    for (words, folder, sync) in commands {
+        let command = format!(in alloc; "listen --endless {words} --address a:1")?;
+        let wanted = Run::Listen {
+            address: String::from_str(alloc, "a:1")?,
+            places: PlaceCount::new(4).ok_or("places")?,
+            clients: 4,
+            topics: TopicLimit::new(10_000).ok_or("topics")?,
+            memory: None,
+            connections: None,
+            idle: None,
+            log: false,
+            metrics: None,
+            keep: Some(Keep {
+                folder: String::from_str(alloc, folder)?,
+                sync,
+            }),
+        };
+        assert!(rt; asks(alloc, command.as_str(), &wanted)?, "{words}");
     }
     Ok(())
 }
@@ -282,6 +319,38 @@ const REFUSED: &[(&str, &str)] = &[
         "the argument '--metrics <ADDRESS>' cannot be used multiple times",
     ),
     (
+        "listen --address a:1 --endless --keep",
+        "a value is required for '--keep <FOLDER>'",
+    ),
+    (
+        "listen --address a:1 --endless --keep a --keep a",
+        "the argument '--keep <FOLDER>' cannot be used multiple times",
+    ),
+    (
+        "listen --address a:1 --endless --keep a --sync",
+        "a value is required for '--sync <WHEN>'",
+    ),
+    (
+        "listen --address a:1 --endless --keep a --sync never --sync never",
+        "the argument '--sync <WHEN>' cannot be used multiple times",
+    ),
+    (
+        "listen --address a:1 --endless --sync always",
+        "error: --sync is given without --keep",
+    ),
+    (
+        "listen --address a:1 --endless --sync often",
+        "error: --sync is given without --keep",
+    ),
+    (
+        "listen --address a:1 --endless --keep a --sync often",
+        "error: --sync takes always, second or never",
+    ),
+    (
+        "listen --address a:1 --endless --keep a --sync Always",
+        "error: --sync takes always, second or never",
+    ),
+    (
         "listen --address a:1 --connections 1 --log --log",
         "the argument '--log' cannot be used multiple times",
     ),
@@ -324,6 +393,8 @@ fn help_and_the_version_are_shown(rt: HostRuntime) -> Result<(), Fail> {
         ("listen --help", "--memory <SIZE>"),
         ("listen --help", "--metrics <ADDRESS>"),
         ("listen --help", "GET /metrics"),
+        ("listen --help", "--keep <FOLDER>"),
+        ("listen --help", "--sync <WHEN>"),
         ("listen --help", "[default: 10000]"),
         ("--version", "rstored 0.1.0"),
     ];

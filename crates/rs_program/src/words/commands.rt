@@ -3,7 +3,7 @@
 ghost use Rattle.std.specs.Prelude.{◌≡◌, IfOk, false};
 ghost use Rattle.clap.specs.Words.{app_of, rule_of};
 ghost use Rattle.clap.specs.declared.builder.command.Command.TheViews.{out-Command as fields_of};
-ghost use Rattle.rs_program.specs.CommandLine.{address_option, clients_option, connections_option, endless_option, idle_option, listen_words, log_option, memory_option, metrics_option, number_option, pipe_words, places_option, rstored_words, topics_option};
+ghost use Rattle.rs_program.specs.CommandLine.{address_option, clients_option, connections_option, endless_option, idle_option, keep_option, listen_words, log_option, memory_option, metrics_option, number_option, pipe_words, places_option, rstored_words, sync_option, topics_option};
 
 use clap::builder::ValueParser;
 use clap::{Arg, ArgAction, Command};
@@ -60,16 +60,23 @@ With --log, it writes a line to standard error when a connection begins and when
 place of its client (the client's number if there are more clients than places), the number of the
 connection, the client's address, how it ended and what it was refused; when the store is full or has
 no memory left, and when it takes new topics or messages again; if the process may have too few
-descriptors for its clients, or the system lets too few of them wait; and if it cannot listen, with
-the reason.
+descriptors for its clients, or the system lets too few of them wait; how much the folder of --keep
+has, when its disk refuses changes or fails, and when it takes them again; and if it cannot listen or
+keep, with the reason.
 
 With --metrics, a separate thread answers HTTP requests at that address, which is also printed:
-GET /metrics returns what the server counts, for Prometheus, and GET /healthz tells whether its store
-takes changes. The thread serves up to eight requests at once, each for up to five seconds.
+GET /metrics returns what the server counts, for Prometheus, and GET /healthz tells whether its
+store's writer runs. The thread serves up to eight requests at once, each for up to five seconds.
 
-The store is in memory: it is empty at the start, and lost at the end. With --memory, a message is
-refused if all messages would then count more bytes. Each counts its topic, its payload and
-properties, and 360 more.
+Without --keep, the store is in memory alone: it is empty at the start, and lost at the end. With
+--keep, a change is in that folder before anybody is told of it, and the server begins with what the
+folder has. The folder is made if it is missing, and one server at a time may have it. With --sync
+always, a power cut loses nothing that anybody was told. With --sync second it may lose the last
+seconds, with --sync never about the last half minute; then changes are acknowledged sooner. If the
+process ends or is killed, nothing is lost with any of them. If the disk is full, changes are refused.
+
+With --memory, a message is refused if all messages would then count more bytes. Each counts its
+topic, its payload and properties, and 360 more.
 
 There is no TLS, and user names and passwords are not checked. Listen only where every client is
 trusted. Whoever reaches the address of the metrics can read them.";
@@ -88,6 +95,13 @@ const TOPICS_HELP: &str = "How many topics may hold a message";
 
 const MEMORY_HELP: &str =
     "How many bytes the messages may count: a number, alone or before K, M or G, as 512M; by default there is no limit";
+
+const KEEP_HELP: &str =
+    "The folder that keeps the messages, so that the next start has them; by default none does";
+
+const SYNC_HELP: &str = "\
+When a change of the folder is synced to the disk: always, before anybody is told of it; second, each second; \
+never, when the system does it; by default always";
 
 const CONNECTIONS_HELP: &str = "After how many connections the program ends";
 
@@ -214,6 +228,26 @@ fn memory_option<'a>(alloc: Global) -> Arg<'a>
         .help(MEMORY_HELP)
 }
 
+fn keep_option<'a>(alloc: Global) -> Arg<'a>
+    ensures rule { rule_of result ≡ keep_option }
+    ensures local { result.global ≡ false }
+{
+    Arg::new(alloc, "keep")
+        .long("keep")
+        .value_name("FOLDER")
+        .help(KEEP_HELP)
+}
+
+fn sync_option<'a>(alloc: Global) -> Arg<'a>
+    ensures rule { rule_of result ≡ sync_option }
+    ensures local { result.global ≡ false }
+{
+    Arg::new(alloc, "sync")
+        .long("sync")
+        .value_name("WHEN")
+        .help(SYNC_HELP)
+}
+
 fn connections_option<'a>(alloc: Global) -> Arg<'a>
     ensures rule { rule_of result ≡ connections_option }
     ensures local { result.global ≡ false }
@@ -274,5 +308,7 @@ fn listen_command<'a>(alloc: Global) -> Result<Command<'a>, AllocError>
         .arg(endless_option(alloc))?
         .arg(idle_option(alloc))?
         .arg(log_option(alloc))?
-        .arg(metrics_option(alloc))
+        .arg(metrics_option(alloc))?
+        .arg(keep_option(alloc))?
+        .arg(sync_option(alloc))
 }

@@ -1,19 +1,20 @@
 //! The values of a command's options.
 
-ghost use Rattle.std.specs.Prelude.{◌≡◌, ◌<◌, ◌≤◌, ◌^◌, IfOk, IfSome, codes};
+ghost use Rattle.std.specs.Prelude.{◌≡◌, ◌<◌, ◌≤◌, ◌^◌, IfOk, IfSome, None, Some, codes, unwrap_or};
 ghost use Rattle.std.specs.Option.{option_map};
 ghost use Rattle.std.specs.String.{string_bytes};
 ghost use Rattle.clap.specs.Words.{first_of, found_of, rows_of};
 ghost use Rattle.rs_message.specs.declared.entry.TheConstants.{MAX_PLACES};
 ghost use Rattle.rs_store.specs.declared.limit.TheConstants.{MAX_TOPICS};
-ghost use Rattle.rs_program.specs.CommandLine.{AreClientsOf, IsFlagOf, IsInRange, IsNumberGiven, IsNumberOf, IsRunOf, IsSizeGiven};
+ghost use Rattle.rs_program.specs.CommandLine.{AreClientsOf, IsFlagOf, IsInRange, IsKeepOf, IsNumberGiven, IsNumberOf, IsRunOf, IsSizeGiven, policy_text};
 
 use crate::words::commands::{MAX_CLIENTS, MAX_CONNECTIONS, MAX_IDLE};
 use crate::words::size::read_size;
-use crate::words::{Run, WordsFault, refused};
+use crate::words::{Keep, Run, WordsFault, refused};
 use clap::ArgMatches;
 use rs_message::{MAX_PLACES, PlaceCount};
 use rs_store::{MAX_TOPICS, TopicLimit};
+use rs_tcp_server::SyncPolicy;
 use std::alloc::Global;
 
 const NO_SIZE: &str = "\
@@ -61,6 +62,7 @@ pub(super) fn listen_of(alloc: Global, found: &ArgMatches<'_>) -> Result<Run, Wo
         return Err(refused(alloc, "error: give either --connections or --endless\n"));
     }
     let metrics = text_given(alloc, found, "metrics")?;
+    let keep = keep_given(alloc, found)?;
     let Ok(address) = String::from_str(alloc, address) else {
         return Err(WordsFault::NoMemory);
     };
@@ -74,6 +76,7 @@ pub(super) fn listen_of(alloc: Global, found: &ArgMatches<'_>) -> Result<Run, Wo
         idle,
         log: flag(found, "log"),
         metrics,
+        keep,
     })
 }
 
@@ -156,6 +159,68 @@ fn text_given(
             Ok(text) => Ok(Some(text)),
             Err(_) => Err(WordsFault::NoMemory),
         },
+    }
+}
+
+/// What keeps the messages, if anything does.
+fn keep_given(alloc: Global, found: &ArgMatches<'_>) -> Result<Option<Keep>, WordsFault>
+    ensures { IfOk result (IsKeepOf (rows_of (found_of found.now))) }
+{
+    let folder = text_given(alloc, found, "keep")?;
+    match folder {
+        Some(folder) => keep_in(alloc, found, folder),
+        None => keep_nowhere(alloc, found),
+    }
+}
+
+/// What keeps the messages, if this folder was given.
+fn keep_in(
+    alloc: Global,
+    found: &ArgMatches<'_>,
+    folder: String,
+) -> Result<Option<Keep>, WordsFault>
+    requires { first_of (codes "keep") (rows_of (found_of found.now)) ≡ Some (string_bytes folder) }
+    ensures { IfOk result (IsKeepOf (rows_of (found_of found.now))) }
+{
+    let Some(sync) = policy_given(found) else {
+        return Err(refused(alloc, "error: --sync takes always, second or never\n"));
+    };
+    Ok(Some(Keep { folder, sync }))
+}
+
+/// That nothing does, if no folder was given.
+fn keep_nowhere(alloc: Global, found: &ArgMatches<'_>) -> Result<Option<Keep>, WordsFault>
+    requires { first_of (codes "keep") (rows_of (found_of found.now)) ≡ None }
+    ensures { IfOk result (IsKeepOf (rows_of (found_of found.now))) }
+{
+    match found.get_str("sync") {
+        None => Ok(None),
+        Some(_) => Err(refused(alloc, "error: --sync is given without --keep\n")),
+    }
+}
+
+/// The policy that was given, or the first if none was. `None` if it was given another text.
+fn policy_given(found: &ArgMatches<'_>) -> Option<SyncPolicy>
+    ensures { IfSome result (λ policy. unwrap_or (first_of (codes "sync") (rows_of (found_of found.now))) (codes "always") ≡ policy_text policy) }
+{
+    match found.get_str("sync") {
+        None => Some(SyncPolicy::Always),
+        Some(text) => {
+            let policy = policy_of(text)?;
+            Some(policy)
+        }
+    }
+}
+
+/// The policy of this name.
+fn policy_of(text: &str) -> Option<SyncPolicy>
+    ensures { IfSome result (λ policy. text.now ≡ policy_text policy) }
+{
+    match text {
+        "always" => Some(SyncPolicy::Always),
+        "second" => Some(SyncPolicy::Second),
+        "never" => Some(SyncPolicy::Never),
+        _ => None,
     }
 }
 

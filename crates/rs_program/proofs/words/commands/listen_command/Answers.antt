@@ -5,7 +5,7 @@ use Rattle.clap.specs.Simple.{app_of_fields}
 use Rattle.clap.specs.declared.builder.command.Command.{Command}
 use Rattle.clap.specs.declared.builder.command.Command.TheOpen.{Command-F}
 use Rattle.clap.specs.declared.builder.command.Command.TheViews.{out-Command}
-use Rattle.rs_program.specs.CommandLine.{address_option, places_option, clients_option, topics_option, memory_option, connections_option, endless_option, idle_option, log_option}
+use Rattle.rs_program.specs.CommandLine.{address_option, places_option, clients_option, topics_option, memory_option, connections_option, endless_option, idle_option, log_option, metrics_option, keep_option}
 use Rattle.rs_program.proofs.words.commands.listen_command.Goals as goal
 
 pub returns-clause-shape : goal.returns-clause-shape
@@ -29,7 +29,11 @@ returns-clause-shape c =
     let eighth : app_of c.in_ok-arg-8.field-0 ≡ with_eighth = c.in_ok-arg-8.ensures.shape c.idle_option.ensures.local ∙ ap₂ with_rule seventh c.idle_option.ensures.rule in
     let with_ninth : App = with_rule with_eighth log_option in
     let ninth : app_of c.in_ok-arg-9.field-0 ≡ with_ninth = c.in_ok-arg-9.ensures.shape c.log_option.ensures.local ∙ ap₂ with_rule eighth c.log_option.ensures.rule in
-    IfOk-weaker c.arg-10.result _ _ (λ r h. h.shape c.metrics_option.ensures.local ∙ ap₂ with_rule ninth c.metrics_option.ensures.rule) c.arg-10.ensures
+    let with_tenth : App = with_rule with_ninth metrics_option in
+    let tenth : app_of c.in_ok-arg-10.field-0 ≡ with_tenth = c.in_ok-arg-10.ensures.shape c.metrics_option.ensures.local ∙ ap₂ with_rule ninth c.metrics_option.ensures.rule in
+    let with_eleventh : App = with_rule with_tenth keep_option in
+    let eleventh : app_of c.in_ok-arg-11.field-0 ≡ with_eleventh = c.in_ok-arg-11.ensures.shape c.keep_option.ensures.local ∙ ap₂ with_rule tenth c.keep_option.ensures.rule in
+    IfOk-weaker c.arg-12.result _ _ (λ r h. h.shape c.sync_option.ensures.local ∙ ap₂ with_rule eleventh c.sync_option.ensures.rule) c.arg-12.ensures
 
 pub returns-clause-local : goal.returns-clause-local
 returns-clause-local c =
@@ -43,4 +47,6 @@ returns-clause-local c =
     let seventh : (out-Command c.in_ok-arg-7.field-0).has_globals ≡ false = c.in_ok-arg-7.ensures.globals ∙ (rw (sixth, c.endless_option.ensures.local) refl) in
     let eighth : (out-Command c.in_ok-arg-8.field-0).has_globals ≡ false = c.in_ok-arg-8.ensures.globals ∙ (rw (seventh, c.idle_option.ensures.local) refl) in
     let ninth : (out-Command c.in_ok-arg-9.field-0).has_globals ≡ false = c.in_ok-arg-9.ensures.globals ∙ (rw (eighth, c.log_option.ensures.local) refl) in
-    IfOk-weaker c.arg-10.result _ _ (λ r h. h.globals ∙ (rw (ninth, c.metrics_option.ensures.local) refl)) c.arg-10.ensures
+    let tenth : (out-Command c.in_ok-arg-10.field-0).has_globals ≡ false = c.in_ok-arg-10.ensures.globals ∙ (rw (ninth, c.metrics_option.ensures.local) refl) in
+    let eleventh : (out-Command c.in_ok-arg-11.field-0).has_globals ≡ false = c.in_ok-arg-11.ensures.globals ∙ (rw (tenth, c.keep_option.ensures.local) refl) in
+    IfOk-weaker c.arg-12.result _ _ (λ r h. h.globals ∙ (rw (eleventh, c.sync_option.ensures.local) refl)) c.arg-12.ensures

@@ -17,4 +17,4 @@ returns-clause-run c =
     let given = c.in-Some-Some-Some-Some-Some in
     let address : first_of (codes "address") (rows_of found) ≡ Some given.address.now = sym (given.ensures ∙ first_value-rows found (codes "address")) in
     let endless = subst (IsFlagOf (rows_of found) (codes "endless")) (unlike c.is_some.result c.flag.result c.if-is_some-flag.false ∙ ap not c.is_some.ensures) c.flag.ensures in
-    (refl, address ∙ ap Some (sym c.in-Ok.ensures.ok), given.ensures', c.in-Some.ensures.given, given.ensures'', c.in-Some-size_given.ensures.given, (given.ensures''', endless), given.ensures'''', c.flag-2.ensures, c.in_ok-metrics.ensures)
+    (refl, address ∙ ap Some (sym c.in-Ok.ensures.ok), given.ensures', c.in-Some.ensures.given, given.ensures'', c.in-Some-size_given.ensures.given, (given.ensures''', endless), given.ensures'''', c.flag-2.ensures, c.in_ok-metrics.ensures, c.in_ok-keep.ensures)

@@ -10,3 +10,8 @@ returns-clause-more g c = λ less.
     let low = m.0 in
     let high = m.1 in
     (omega (arith, low, place, same, count), omega (arith, high, count))
+
+pub returns-clause-run : goal.returns-clause-run
+returns-clause-run g c =
+    let e = c.in_ok-end.ensures in
+    (e.0, e.1, c.in_ok-end.end.version, c.in_ok-end.end.cause, rw c.get-5.ensures.value e.2)
