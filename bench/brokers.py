@@ -35,6 +35,7 @@ from harness.server import Server
 from harness.words import given_words
 
 RUNS = 5
+PACKAGES = ("mosquitto", "gcc", "libc6-dev")
 
 # What the service of contrib/ gives the server, but for the log. A store that is nearly full.
 SERVICE = {"places": 16, "clients": 2_000, "memory": "512M", "idle": 120}
@@ -602,6 +603,18 @@ def once(path):
     print("brokers: each measure was made once")
 
 
+@contextlib.contextmanager
+def compiled_load():
+    """The path of the clients. A fleet needs a descriptor for each connection, on both sides."""
+    most = resource.getrlimit(resource.RLIMIT_NOFILE)[1]
+    resource.setrlimit(resource.RLIMIT_NOFILE, (most, most))
+    with tempfile.TemporaryDirectory() as folder:
+        path = f"{folder}/load"
+        words = ["gcc", "-O2", "-pthread", "-o", path, ROOT / "bench" / "load.c"]
+        subprocess.run(words, check=True)
+        yield path
+
+
 def run_in_own_network(words):
     """Runs this again in a network of its own, if that may be made."""
     command = ["unshare", "--net"]
@@ -623,19 +636,13 @@ def open_own_network():
 
 def main():
     words = given_words("--once", "--fleets")
-    if not debian.has(["mosquitto", "gcc", "libc6-dev"]):
+    if not debian.has(PACKAGES):
         return
     if OWN_NETWORK in os.environ:
         open_own_network()
     elif "--fleets" in words:
         run_in_own_network(words)
-    # A fleet needs a descriptor for each connection, on both sides.
-    most = resource.getrlimit(resource.RLIMIT_NOFILE)[1]
-    resource.setrlimit(resource.RLIMIT_NOFILE, (most, most))
-    with tempfile.TemporaryDirectory() as folder:
-        path = f"{folder}/load"
-        compile_load = ["gcc", "-O2", "-pthread", "-o", path, ROOT / "bench" / "load.c"]
-        subprocess.run(compile_load, check=True)
+    with compiled_load() as path:
         if "--once" in words:
             once(path)
         elif not table(path, FLEETS if "--fleets" in words else MEASURES):

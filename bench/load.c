@@ -20,6 +20,9 @@
 //         is killed
 //     load PORT silent CLIENTS
 //         a line when so many have connected that say nothing, until it is killed
+//     load PORT commits FILE COUNT SIZE LENGTH
+//         microseconds: so often SIZE bytes are written to a file of LENGTH bytes, one behind the
+//         other and from its begin again, and synced
 //     load PORT burn
 //         nothing: it keeps a processor busy until it is killed
 //     load PORT echo
@@ -33,6 +36,7 @@
 #define _GNU_SOURCE
 #include <arpa/inet.h>
 #include <errno.h>
+#include <fcntl.h>
 #include <netinet/tcp.h>
 #include <pthread.h>
 #include <stdint.h>
@@ -623,6 +627,20 @@ static void silent(int count) {
     pause();
 }
 
+static void commits(const char *file, size_t count, size_t size, size_t length) {
+    uint8_t *bytes = calloc(1, size);
+    int fd = open(file, O_RDWR | O_CREAT, 0600);
+    if (fd < 0 || !bytes || ftruncate(fd, 0) != 0 || fsync(fd) != 0) fail(file);
+    double start = now();
+    for (size_t i = 0, at = 0; i < count; i++) {
+        if (pwrite(fd, bytes, size, (off_t)at) != (ssize_t)size) fail("pwrite");
+        if (fdatasync(fd) != 0) fail("fdatasync");
+        at = at + size < length ? at + size : 0;
+    }
+    printf("%.1f\n", now() - start);
+    close(fd);
+}
+
 static void echo(void) {
     static const uint8_t connack[] = {CONNACK, 3, 0, 0, 0};
     struct sockaddr_in address = {.sin_family = AF_INET, .sin_port = htons(port)};
@@ -668,6 +686,8 @@ int main(int count, char **words) {
         crowd((int)n[0], (double)n[1]);
     else if (strcmp(job, "silent") == 0 && count == 4)
         silent((int)n[0]);
+    else if (strcmp(job, "commits") == 0 && count == 7)
+        commits(words[3], (size_t)n[1], (size_t)n[2], (size_t)n[3]);
     else if (strcmp(job, "burn") == 0 && count == 3)
         for (volatile size_t i = 0;; i++) {}
     else if (strcmp(job, "echo") == 0 && count == 3)

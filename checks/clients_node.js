@@ -19,8 +19,9 @@ function same (found, wanted) {
   return JSON.stringify(found) === JSON.stringify(wanted)
 }
 
+// Without a Keep Alive, since on a busy machine MQTT.js would give up a connection.
 function options (own) {
-  const server = { protocolVersion: 5, port: PORT, host: '127.0.0.1' }
+  const server = { protocolVersion: 5, port: PORT, host: '127.0.0.1', keepalive: 0 }
   return { ...server, reconnectPeriod: 0, connectTimeout: PATIENCE, clientId: 'node', ...own }
 }
 

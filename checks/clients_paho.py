@@ -39,7 +39,8 @@ class Session:
         if will:
             self.client.will_set("will", b"gone")
         own = properties(PacketTypes.CONNECT, **options)
-        self.client.connect("127.0.0.1", PORT, clean_start=True, properties=own)
+        # Without a Keep Alive, since on a busy machine paho would give up a connection.
+        self.client.connect("127.0.0.1", PORT, keepalive=0, clean_start=True, properties=own)
         self.until(lambda: self.connack)
 
     def on_connect(self, _client, _data, _flags, code, own):

@@ -50,6 +50,11 @@ def settings():
     return dict(word.split("=", 1) for word in given)
 
 
+def space(size):
+    """How many bytes the server has for all messages of this size."""
+    return SPACES.get(size, max(SPACES.values()))
+
+
 def payload(number, size):
     return b"%d " % number + size * b"x"
 
@@ -66,16 +71,16 @@ def limit(server, size):
 
 
 @contextmanager
-def full_server(size, clients, environment=None):
-    """A server that has refused publications because memory was refused, a client that was there before,
-    and the numbers of the topics that it acknowledged."""
-    options = {"places": PLACES, "clients": clients, "environment": environment}
+def full_server(size, clients, environment=None, **more):
+    """A server that has refused publications because memory was refused, a client that was there
+    before, and the numbers of the topics that it acknowledged."""
+    options = {"places": PLACES, "clients": clients, "environment": environment, **more}
     with Server(topics=65_536, **options) as server:
         clients = [Client(server).connect() for _ in range(clients)]
         staying = clients.pop()
         for client in clients:
             client.disconnect()
-        limit(server, size_of(server, "VmData") + SPACES[size])
+        limit(server, size_of(server, "VmData") + space(size))
         yield server, staying, filled(server, size)
 
 
@@ -83,7 +88,7 @@ def filled(server, size):
     """Publishes until enough publications were refused, by a client that comes again if its
     connection ends."""
     kept, refused, client = [], 0, None
-    for number in range(SPACES[size] // size + 10 * REFUSED):
+    for number in range(space(size) // size + 10 * REFUSED):
         try:
             client = client or Client(server).connect()
             client.send(publish(topic(number), payload(number, size)))
@@ -204,19 +209,25 @@ def clears(server, numbers):
     return comes(are_cleared)
 
 
-def new_clients_read_and_clear():
+def read_and_clear(size, rounds=1):
     """At the limit, clients that come when none was there before read one topic each, and then one
-    clears all."""
-    for size in SPACES:
-        with Server(places=PLACES, clients=NEW, topics=65_536, environment=settings()) as server:
-            # Two for each place. The first thread and the writer's are there, too.
-            wait_for_threads(server, 2 * PLACES + 2)
-            limit(server, size_of(server, "VmData") + SPACES[size])
+    clears all. So often the server is filled anew."""
+    with Server(places=PLACES, clients=NEW, topics=65_536, environment=settings()) as server:
+        # Two for each place. The first thread and the writer's are there, too.
+        wait_for_threads(server, 2 * PLACES + 2)
+        limit(server, size_of(server, "VmData") + space(size))
+        for _ in range(rounds):
             kept = filled(server, size)
             for number in itertools.islice(itertools.cycle(kept), 3 * NEW):
                 told = f"new clients could not read a message of {size} bytes"
                 wanted(is_read(server, size, number), told)
             wanted(clears(server, kept), f"topics of {size} bytes could not be cleared")
+
+
+def new_clients_read_and_clear():
+    """With messages of each size, once."""
+    for size in SPACES:
+        read_and_clear(size)
 
 
 def new_ones_fit():
@@ -240,7 +251,7 @@ def a_silent_reader_holds_up_nobody():
         with Server(topics=65_536, **options) as server:
             silent = Client(server, room=4_096).connect()
             clients = [Client(server).connect() for _ in range(max(CLIENTS) - 1)]
-            limit(server, size_of(server, "VmData") + SPACES[size])
+            limit(server, size_of(server, "VmData") + space(size))
             number = filled(server, size)[0]
             send_until_stuck(silent, 10 * subscribe(topic(number)))
             for client in clients:

@@ -32,7 +32,6 @@ from checks.listening_places import (
 )
 from checks.listening_store import expired_topics, one_history
 from checks.worked import examples
-from harness.client import Client
 from harness.server import Server
 from harness.words import run_named
 
@@ -45,7 +44,7 @@ def worked_examples():
     """Those that no clock changes are the same through a connection: one client serves all of an
     example in turn, and then three do."""
     every = examples()
-    chosen = [each for each in every if not any(own.moments for own in each.connections)]
+    chosen = [each for each in every if each.has_no_clock()]
     # Which of three clients a connection gets is not known, and an identifier that it is given
     # depends on that.
     shared = [each for each in chosen if not any(map(is_named, each.connections))]
@@ -60,12 +59,7 @@ def worked_examples():
 def run_example(example, **options):
     topics, count = example.topics or 10_000, len(example.connections)
     with Server(topics=topics, connections=count, **options) as server:
-        for connection in example.connections:
-            with Client(server) as client:
-                for sent, answer in connection.turns:
-                    client.ask(sent, answer)
-                client.half_close()
-                client.take_end()
+        example.talk(server)
         wanted(server.ended()[0] == 0, f"{example.name}: another end")
 
 

@@ -22,15 +22,26 @@ def one_history(count=12, topics=4, rounds=50):
         are_of_one_history(options, count, topics, rounds)
 
 
-def are_of_one_history(options, count, topics, rounds):
-    """The same at a server with these options."""
-    names = [[b"h/%02d/%d" % (own, number) for number in range(topics)] for own in range(count)]
+class History:
+    """Clients that publish numbers and read all topics, and what each was shown."""
 
-    def numbers(client):
+    def __init__(self, count, topics):
+        self.names = [[b"h/%02d/%d" % (own, at) for at in range(topics)] for own in range(count)]
+        self.kept = [[0] * topics for _ in range(count)]
+        self.reads = [[] for _ in range(count)]
+
+    def begin(self, server):
+        """Publishes each topic for the first time."""
+        with Client(server).connect() as first:
+            for name in sum(self.names, []):
+                first.ask(publish(name, b"0"), PUBACK)
+            first.disconnect()
+
+    def numbers(self, client):
         """What a read shows of each topic, in their order."""
         client.ask(subscribe(b"h/#"), SUBACK)
         shown = []
-        for name in sum(names, []):
+        for name in sum(self.names, []):
             packet = client.take_packet()
             number = packet[len(replayed(name, b"")) :]
             is_next = packet == replayed(name, number)
@@ -38,33 +49,46 @@ def are_of_one_history(options, count, topics, rounds):
             shown.append(int(number))
         return shown
 
-    def publish_and_read(own):
+    def publish(self, client, own, together):
+        """A client publishes so many numbers of its own together."""
+        kept, sent = self.kept[own], b""
+        for number in range(max(kept) + 1, max(kept) + together + 1):
+            at = number % len(kept)
+            kept[at] = number
+            sent += publish(self.names[own][at], b"%d" % number)
+        client.ask(sent, together * PUBACK)
+
+    def work(self, server, own, rounds):
+        """A client publishes one to three numbers, and reads, so often."""
+        kept, reads = self.kept[own], self.reads[own]
         with Client(server).connect() as client:
-            kept, reads, number = [0] * topics, [], 0
+            # If a server was killed before, it is not known which of the last numbers it has.
+            self.publish(client, own, len(kept))
             for turn in range(rounds):
-                together, sent = turn % 3 + 1, b""
-                for number in range(number + 1, number + together + 1):
-                    kept[number % topics] = number
-                    sent += publish(names[own][number % topics], b"%d" % number)
-                client.ask(sent, together * PUBACK)
-                reads.append(numbers(client))
-                own_read = reads[-1][own * topics : (own + 1) * topics]
+                self.publish(client, own, turn % 3 + 1)
+                reads.append(self.numbers(client))
+                own_read = reads[-1][own * len(kept) : (own + 1) * len(kept)]
                 wanted(own_read == kept, "a read does not show what was kept before")
             client.disconnect()
-            return reads
 
-    def is_no_later(one, other):
-        return all(number <= later for number, later in zip(one, other))
+    def look(self):
+        """All reads are of one history."""
+        for own in [*self.reads, sorted(sum(self.reads, []), key=sum)]:
+            wanted(all(map(is_no_later, own, own[1:])), "two reads are not of one history")
 
+
+def is_no_later(one, other):
+    return all(number <= later for number, later in zip(one, other))
+
+
+def are_of_one_history(options, count, topics, rounds):
+    """The same at a server with these options."""
+    history = History(count, topics)
     with Server(**options) as server:
-        with Client(server).connect() as first:
-            for name in sum(names, []):
-                first.ask(publish(name, b"0"), PUBACK)
-            first.disconnect()
+        history.begin(server)
         with ThreadPoolExecutor(count) as threads:
-            reads = list(threads.map(publish_and_read, range(count)))
-    for own in [*reads, sorted(sum(reads, []), key=sum)]:
-        wanted(all(map(is_no_later, own, own[1:])), "two reads are not of one history")
+            list(threads.map(lambda own: history.work(server, own, rounds), range(count)))
+    history.look()
 
 
 def expired_topics(count=1_000):

@@ -12,7 +12,11 @@ from bisect import bisect_left
 from concurrent.futures import ThreadPoolExecutor
 from time import monotonic
 
+from checks import kept_folder, kept_kills
+from checks.full_memory import read_and_clear
+from checks.kept_compaction import torn_compactions
 from checks.listening_messages import all_replayed, publish, replayed, subscribe, topic, wanted
+from checks.listening_store import are_of_one_history
 from checks.out_of_memory import run_refused
 from harness import debian, packets
 from harness.client import Client
@@ -238,6 +242,19 @@ def a_refused_growth(count):
     wanted(max(asked) < 11 * least // 10, shown)
 
 
+def reads_by_one_seat(rounds):
+    """Twelve clients share a seat. So often each of them publishes and then reads all that they
+    published, and no read shows less of any than another one before it."""
+    are_of_one_history({"places": 1, "clients": 40}, 12, 4, rounds)
+
+
+def sizes_at_the_limit(count):
+    """With messages of so many sizes from 1,000 to 10,000 bytes a server is filled up to the limit
+    of its process, read and cleared, and then again: so it needs its reserve twice."""
+    for number in range(count):
+        read_and_clear(1_000 + 9_000 * number // max(count - 1, 1), 2)
+
+
 def allocations(words, given, library):
     """How many allocations a run makes."""
 
@@ -271,6 +288,14 @@ CHECKS = (
     (refused_accepts, 200, 20),
     (replaced_levels, 10, 2),
     (a_refused_growth, 1_000, 200),
+    (kept_kills.kills, 500, 2),
+    (kept_kills.power_cuts, 500, 2),
+    (kept_kills.unsynced_power_cuts, 200, 2),
+    (kept_kills.torn_writes, 500, 2),
+    (torn_compactions, 200, 2),
+    (kept_folder.changed_bytes, 1_000, 2),
+    (reads_by_one_seat, 1_000, 10),
+    (sizes_at_the_limit, 7, 1),
 )
 
 

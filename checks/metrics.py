@@ -5,6 +5,7 @@ hold up nobody; and Prometheus' own tool finds no fault in the text.
 
 import shutil
 import subprocess
+import tempfile
 from concurrent.futures import ThreadPoolExecutor
 from contextlib import ExitStack
 from time import monotonic, sleep, time
@@ -70,6 +71,8 @@ COUNTERS = (
 )
 GAUGES = ("clients", "topics", "retained_bytes", "changes_waiting")
 PAYLOAD = b"x" * 100
+# How many bytes a page of a journal has.
+PAGE = 1_024
 PUBREC, PUBREC_NO_SPACE = acknowledgement(0x50, 1), acknowledgement(0x50, 1, b"\x97")
 PUBCOMP = acknowledgement(0x70, 1)
 # How many requests are served at once, and for how many seconds at most.
@@ -252,6 +255,38 @@ def each_end():
                 seen[ended("write_failed_or_idle")] += 1
                 seen[received] += 2
                 are_told(server, seen, [*names[:-4], opened, received])
+
+
+def a_journal():
+    """With `--keep` it is told how many commits there were, how long they took, how many bytes they
+    wrote, how many the journal has, and whether it refuses changes. A restart begins anew with all
+    but the size."""
+    with tempfile.TemporaryDirectory() as folder:
+        size = 0
+        for sync in "always", "second", "never":
+            start = monotonic()
+            with Server(places=1, metrics=ANY, keep=folder, sync=sync) as server:
+                wanted(of_journal(server) == (0, 0, 0, size, 0), f"it begins with {sync} otherwise")
+                for number in range(1, 4):
+                    with Client(server).connect() as client:
+                        client.ask(publish(topic(number), PAYLOAD), PUBACK)
+                        client.disconnect()
+                    commits, took, *others = told = of_journal(server)
+                    # The first time, the log may be copied, and is synced by a commit before.
+                    wanted(commits - number in (0, sync != "always"), f"{number} changes: {told}")
+                    is_right = others == [PAGE * commits, size + PAGE * commits, 0]
+                    wanted(is_right and 0 < took < monotonic() - start, f"told is {told}")
+            size += PAGE * commits
+    with Server(places=1, metrics=ANY) as server:
+        told = [name for name in numbers_of(server) if name.startswith("rstored_journal")]
+        wanted(not told, f"without a journal {told} are told")
+
+
+def of_journal(server):
+    """What is told of a journal."""
+    names = ("commits_total", "commit_seconds_total", "bytes_written_total", "bytes", "refusing")
+    numbers = numbers_of(server)
+    return tuple(numbers[f"rstored_journal_{name}"] for name in names)
 
 
 def a_long_answer(count=WAITING // 2 + 1):
@@ -477,6 +512,7 @@ def few_descriptors(limit=40):
 CHECKS = (
     each_number,
     each_end,
+    a_journal,
     a_long_answer,
     many_at_once,
     requests,

@@ -16,7 +16,7 @@ RESIDENT = "rstored_resident_memory_bytes"
 TEXT_TYPE = b"content-type: text/plain; version=0.0.4; charset=utf-8"
 
 LABEL = r'[a-z_]+="[a-z0-9_]+"'
-SAMPLE = re.compile(rf"([a-z_]+(?:{{{LABEL}(?:,{LABEL})*}})?) ([0-9]+)")
+SAMPLE = re.compile(rf"([a-z_]+(?:{{{LABEL}(?:,{LABEL})*}})?) ([0-9]+(?:e-6)?)")
 COMMENT = re.compile(r"# (?:HELP [a-z_]+ .+\.|TYPE [a-z_]+ (?:counter|gauge))")
 
 
@@ -75,7 +75,8 @@ def numbers_of(server):
             continue
         found = SAMPLE.fullmatch(line)
         wanted(found and found[1] not in numbers, f"the numbers have the line {line!r}")
-        numbers[found[1]] = int(found[2])
+        is_whole = found[2].isdecimal()
+        numbers[found[1]] = int(found[2]) if is_whole else float(found[2])
     return numbers
 
 

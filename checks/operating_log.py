@@ -31,7 +31,7 @@ VISIT = r"([0-9]+) (place|client) ([0-9]+), connection ([0-9]+), ([0-9.]+:[0-9]+
 LINE = re.compile(rf"\[INFO  rstored\] {VISIT}: (.*)")
 COUNTS = r"([0-9]+) packets, ([0-9]+) bytes in, ([0-9]+) bytes out"
 END = re.compile(rf"(.*), {COUNTS}(?:, refused (.*))?")
-STORE = re.compile(r"\[(WARN|INFO)  rstored\] [0-9]+ (the store .*)")
+STORE = re.compile(r"\[(WARN|INFO)  rstored\] [0-9]+ (the (?:store|folder|disk|journal) .*)")
 
 # What the log says when the store is full, and when there may be space again.
 FULL = ("WARN", "the store is full: a message for a new topic was refused")

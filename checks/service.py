@@ -55,15 +55,23 @@ def served():
     clients as it has places."""
     path, name, option, address, *options = words("rstored.service")
     told = (path, name, option, address)
+    keeping = options.index("--keep") + 1
+    wanted(options[keeping] == "${STATE_DIRECTORY}", f"it keeps in {options[keeping]}")
     wanted(told == (INSTALLED, "listen", "--address", f"{HOST}:1883"), f"it begins with {told}")
     places = options[options.index("--places") + 1]
     options[options.index("--clients") + 1] = places
+    with tempfile.TemporaryDirectory() as folder:
+        options[keeping] = folder
+        yield from listening(options, int(places))
+
+
+def listening(options, places):
     run = start("127.0.0.1:0", *options)
     try:
         line = run.stdout.readline()
         wanted(line.startswith("rstored: listening on "), f"it printed {line!r}")
         port = int(line.rpartition(":")[2])
-        yield SimpleNamespace(host="127.0.0.1", port=port, clients=int(places))
+        yield SimpleNamespace(host="127.0.0.1", port=port, clients=places)
     finally:
         run.kill()
         run.communicate()

@@ -74,6 +74,9 @@ NOT_READ = End(1, "", "rstored: read failed\n")
 NOT_WRITTEN = End(1, None, "rstored: write failed\n")
 NO_MEMORY = End(1, "", "rstored: out of memory\n")
 NO_LISTENER = End(1, "", "rstored: cannot listen\n")
+NO_KEEPER = End(1, "", "rstored: cannot keep\n")
+NO_FOLDER = End(2, "", "error: --sync is given without --keep\n")
+NO_POLICY = End(2, "", "error: --sync takes always, second or never\n")
 NO_SIZE = End(
     2,
     "",
@@ -101,7 +104,9 @@ LISTENS = "Serves MQTT 5 clients that connect by TCP."
 SIZES = (f"--{PLACES}", f"--{CLIENTS}", f"--{TOPICS}", f"--{MEMORY}", f"--{CONNECTIONS}")
 LIMITS = (SIZES[0], "[default: 4]", SIZES[1], SIZES[2], "[default: 10000]", *SIZES[3:])
 METRICS = "metrics <ADDRESS>"
-MORE = ("--endless", f"--{IDLE}", "--log", f"--{METRICS}")
+KEEP = "keep <FOLDER>"
+SYNC = "sync <WHEN>"
+MORE = ("--endless", f"--{IDLE}", "--log", f"--{METRICS}", f"--{KEEP}", f"--{SYNC}")
 MISSING = "the following required arguments were not provided:"
 LOOPBACK = "listen --address 127.0.0.1:0"
 ONE = f"{LOOPBACK} --connections 1"
@@ -149,12 +154,19 @@ WORDS = {
     f"{ONE} --metrics a --metrics a": refused(
         f"the argument '--{METRICS}' cannot be used multiple times"
     ),
+    f"{ONE} --keep": refused(f"a value is required for '--{KEEP}' but none was supplied"),
+    f"{ONE} --keep a --keep a": refused(f"the argument '--{KEEP}' cannot be used multiple times"),
+    f"{ONE} --sync never": NO_FOLDER,
+    f"{ONE} --keep a --sync often": NO_POLICY,
+    f"{ONE} --keep a --sync": refused(f"a value is required for '--{SYNC}' but none was supplied"),
     f"{ONE} --idle 0": invalid(0, IDLE, "0 is not in 1..=86400"),
     f"{ONE} --idle 86401": invalid(86401, IDLE, "86401 is not in 1..=86400"),
     f"{ONE} --idle x": invalid("x", IDLE, "invalid digit found in string"),
     f"{ONE} --idle 1 --idle 1": refused(f"the argument '--{IDLE}' cannot be used multiple times"),
     "listen --address nowhere --connections 1": NO_LISTENER,
     f"{ONE} --metrics nowhere": NO_LISTENER,
+    f"{ONE} --keep /dev/null": NO_KEEPER,
+    f"{ONE} --keep nowhere/at/all": NO_KEEPER,
     "pipe --at 0": End(0, ""),
     f"pipe --hex --at {2**64 - 1}": End(0, ""),
 }

@@ -2,7 +2,7 @@
  * NAME.synced, with what it had at its last sync.
  *
  * A sync takes memory for that, and fails if it is refused. Nothing waits for the device. A folder
- * has no such file. */
+ * has no such file. A kill within a sync leaves what the sync before it left. */
 
 extern void *malloc(unsigned long size);
 extern void free(void *block);
@@ -13,13 +13,14 @@ extern long pread(int descriptor, void *bytes, unsigned long count, long at);
 extern long write(int descriptor, const void *bytes, unsigned long count);
 extern long readlink(const char *path, char *target, unsigned long size);
 extern int snprintf(char *text, unsigned long size, const char *format, ...);
+extern int rename(const char *old, const char *new);
 
 enum { OUT_OF_MEMORY = 12, WRITE_CREATE_EMPTY = 01 | 0100 | 01000 };
 
 static int keep(int descriptor)
 {
     static char bytes[65536];
-    char link[64], path[4096];
+    char link[64], path[4096], made[4096 + 8];
     long got = pread(descriptor, bytes, sizeof bytes, 0);
     if (got < 0)
         return 0;
@@ -28,7 +29,8 @@ static int keep(int descriptor)
     if (length < 0)
         return -1;
     snprintf(path + length, 8, ".synced");
-    int copy = open(path, WRITE_CREATE_EMPTY, 0600);
+    snprintf(made, sizeof made, "%s.new", path);
+    int copy = open(made, WRITE_CREATE_EMPTY, 0600);
     if (copy < 0)
         return -1;
     for (long at = 0; got > 0; got = pread(descriptor, bytes, sizeof bytes, at)) {
@@ -36,7 +38,7 @@ static int keep(int descriptor)
             return -1;
         at += got;
     }
-    return close(copy);
+    return close(copy) == 0 ? rename(made, path) : -1;
 }
 
 int fsync(int descriptor)

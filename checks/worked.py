@@ -2,6 +2,7 @@
 
 from dataclasses import dataclass, field
 
+from harness.client import Client
 from harness.program import crate
 
 FILE = crate("check_tasks") / "data" / "examples.txt"
@@ -35,6 +36,19 @@ class Example:
     name: str
     topics: int | None = None
     connections: list[Connection] = field(default_factory=list)
+
+    def has_no_clock(self):
+        """Whether it is the same at every moment."""
+        return not any(own.moments for own in self.connections)
+
+    def talk(self, server):
+        """A client for each connection, one after the other, is answered as the example says."""
+        for connection in self.connections:
+            with Client(server) as client:
+                for sent, answer in connection.turns:
+                    client.ask(sent, answer)
+                client.half_close()
+                client.take_end()
 
 
 def words_bytes(words, names, number):

@@ -3,7 +3,7 @@
 import socket
 import struct
 
-from harness.packets import CONNACK, CONNECT, DISCONNECT
+from harness.packets import CONNACK, CONNECT, DISCONNECT, value
 from harness.patience import PATIENCE
 
 
@@ -40,11 +40,18 @@ class Client:
             raise AssertionError(f"after {at} bytes {came} came, and not {missed}")
 
     def take_packet(self):
-        """Reads a packet of less than 130 bytes, whatever it is."""
-        head = self.reader.read(2)
-        if len(head) < 2:
-            raise AssertionError("the end came, and no packet")
-        return head + self.reader.read(head[1])
+        """Reads a packet, whatever it is."""
+        head = self.take_bytes(2)
+        while head[-1] > 127:
+            head += self.take_bytes(1)
+        length, _ = value(head, 1)
+        return head + self.take_bytes(length)
+
+    def take_bytes(self, count):
+        data = self.reader.read(count)
+        if len(data) < count:
+            raise ConnectionError("the end came, and no whole packet")
+        return data
 
     def ask(self, sent, replies):
         self.send(sent)

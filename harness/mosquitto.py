@@ -1,11 +1,6 @@
 """The broker mosquitto as a server on the loopback."""
 
-import socket
-import subprocess
-import tempfile
-import time
-
-from harness.patience import PATIENCE
+from harness.installed import Installed
 
 # Without the third line it would drop messages of a long replay.
 CONFIGURATION = """
@@ -17,40 +12,15 @@ log_type none
 """
 
 
-class Mosquitto:
-    """A running mosquitto, which is killed at the end of a `with`. It is Debian's."""
-
-    host = "127.0.0.1"
+class Mosquitto(Installed):
+    """A running mosquitto."""
 
     def __init__(self, more=""):
         """With more lines of configuration."""
         self.more = more
 
-    def __enter__(self):
-        with socket.socket() as free:
-            free.bind((self.host, 0))
-            self.port = free.getsockname()[1]
-        self.folder = tempfile.TemporaryDirectory()
-        path = f"{self.folder.name}/mosquitto.conf"
+    def words(self):
+        path = f"{self.folder}/mosquitto.conf"
         with open(path, "w") as file:
             file.write(CONFIGURATION.format(port=self.port) + self.more)
-        silent = {"stdout": subprocess.DEVNULL, "stderr": subprocess.DEVNULL}
-        self.run = subprocess.Popen(["/usr/sbin/mosquitto", "-c", path], **silent)
-        start = time.monotonic()
-        while not self.is_open():
-            if self.run.poll() is not None or time.monotonic() - start > PATIENCE:
-                raise RuntimeError("mosquitto does not listen")
-            time.sleep(0.01)
-        return self
-
-    def is_open(self):
-        with socket.socket() as client:
-            return client.connect_ex((self.host, self.port)) == 0
-
-    def stop(self):
-        self.run.kill()
-        self.run.wait()
-
-    def __exit__(self, *_):
-        self.stop()
-        self.folder.cleanup()
+        return ["/usr/sbin/mosquitto", "-c", path]

@@ -12,6 +12,16 @@ def varint(number):
     return bytes([digit + 128]) + varint(number) if number else bytes([digit])
 
 
+def value(data, at):
+    """The Variable Byte Integer that begins there, and where it ends."""
+    number = shift = 0
+    while True:
+        number |= (data[at] & 127) << shift
+        at, shift = at + 1, shift + 7
+        if data[at - 1] < 128:
+            return number, at
+
+
 def counted(data):
     return len(data).to_bytes(2, "big") + data
 
@@ -23,11 +33,9 @@ def packet(first, body):
 def packets(data):
     """The packets of some bytes, by their Remaining Length (2.1.4)."""
     while data:
-        digits = next(at for at in range(1, 5) if data[at] < 128)
-        length = sum((data[at] % 128) << (7 * (at - 1)) for at in range(1, digits + 1))
-        size = 1 + digits + length
-        yield data[:size]
-        data = data[size:]
+        length, at = value(data, 1)
+        yield data[: at + length]
+        data = data[at + length :]
 
 
 def publish(topic, payload, qos=0, identifier=1, expiry=None, user=()):
