@@ -9,6 +9,8 @@ mod faulty;
 #[cfg(test)]
 mod headers;
 #[cfg(test)]
+mod kept;
+#[cfg(test)]
 mod real;
 #[cfg(test)]
 mod script;

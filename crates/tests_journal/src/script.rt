@@ -144,7 +144,7 @@ fn holds_after(n: u64, topic: u64, held: Option<u64>) -> Option<u64> {
 }
 
 /// The numbers of the Sets whose messages are retained after the operations of these numbers, in the order of their topics.
-fn retained_after(alloc: Global, numbers: &[u64]) -> Result<Vec<u64>, Fail> {
+pub fn retained_after(alloc: Global, numbers: &[u64]) -> Result<Vec<u64>, Fail> {
     let mut retained = Vec::new(alloc);
     for topic in 0..TOPICS {
         let mut held = None;

@@ -8,6 +8,7 @@ mod ending;
 mod faults;
 mod gates;
 mod given;
+mod kept;
 mod known;
 mod peers;
 mod runs;

@@ -1,5 +1,6 @@
 //! Lines, a writer and seats over threads, and each refusal.
 
+mod ahead;
 mod fullness;
 mod log;
 mod many;
@@ -9,6 +10,8 @@ mod polls;
 mod replies;
 mod schedules;
 mod script;
+mod serials;
+mod together;
 
 use kit_test::is_shown;
 use log::{Log, Ran, Reading, has_totals, is_settled, misses_replies};

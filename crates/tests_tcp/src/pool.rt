@@ -4,3 +4,4 @@ mod crowds;
 mod ends;
 mod fakes;
 mod held;
+mod orders;

@@ -218,3 +218,30 @@ fn an_idle_client_is_told_of_once(rt: HostRuntime) -> Result<(), Fail> {
     assert!(rt; is_quiet(&watch));
     Ok(())
 }
+
+/// How often something is written to a peer that is gone.
+const WRITES: u32 = 100;
+
+/// Once the system has learned that a peer is gone, what waits for it cannot be written out, and that is told.
+#[test]
+fn a_failed_write_is_told(rt: HostRuntime) -> Result<(), Fail> {
+    let alloc = rt.alloc();
+    let listener = listener(&rt, alloc, 1)?;
+    let watch = SocketWatch::new(rt, alloc, Arc::try_clone(&listener)?, 1, 1, None)?;
+    let (peers, mut connections) = pairs(&rt, alloc, &listener, 1)?;
+    let Accepted {
+        mut input,
+        mut output,
+        peer: _,
+    } = connections.pop().ok_or("no connection")?;
+    drop(peers);
+    let mut is_told = false;
+    for _ in 0..WRITES {
+        output.write_all(b"x")?;
+        let (same, is_written) = watch.write_out(input);
+        input = same;
+        is_told = is_told || !is_written;
+    }
+    assert!(rt; is_told);
+    Ok(())
+}

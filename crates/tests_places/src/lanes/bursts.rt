@@ -118,6 +118,24 @@ fn many(alloc: Global) -> Result<Talk, AllocError> {
     Ok(talk)
 }
 
+/// 6,000 retained publications of QoS 0, whose jobs grow, since nobody waits for a reply, and what they leave.
+fn plain(alloc: Global) -> Result<Talk, AllocError> {
+    let mut talk = Talk::new(alloc)?;
+    for round in 0..60u8 {
+        for k in 0..100u8 {
+            talk.put(&[0x31, 6, 0, 1, b'a' + k % 3, 0, round, k], b"")?;
+        }
+    }
+    talk.put(
+        b"\x82\x07\x00\x02\x00\x00\x01#\x00",
+        b"\x90\x04\x00\x02\x00\x00",
+    )?;
+    for k in [99u8, 97, 98] {
+        talk.put(b"", &[0x31, 6, 0, 1, b'a' + k % 3, 0, 59, k])?;
+    }
+    Ok(talk)
+}
+
 /// Runs a store of one seat for these clients: each has a thread, or one lane serves all.
 fn run_by<R: Threads + Wait + Copy + Send + Sync + 'static>(
     rt: R,
@@ -156,6 +174,22 @@ fn a_burst_is_answered_as_single_packets_are(rt: HostRuntime) -> Result<(), Fail
         let turns = vec![in alloc; script]?;
         let ran = run_by(rt, alloc, 10, turns, &counts, is_lane)?;
         assert!(rt; ran == as_wanted(1, 1, 10_100, 10_100), "{step}");
+    }
+    Ok(())
+}
+
+#[test]
+fn a_burst_for_which_nobody_waits_is_stored(rt: HostRuntime) -> Result<(), Fail> {
+    let alloc = rt.alloc();
+    for is_lane in [false, true] {
+        let counts = Arc::new(alloc, Counts::new())?;
+        let mut script = Script::new(alloc, Arc::try_clone(&counts)?, 1);
+        let Talk { sent, replies } = plain(alloc)?;
+        let course = course(usize::MAX, 0, Ok(Served::EndOfInput));
+        script.put(course, sent, replies)?;
+        let turns = vec![in alloc; script]?;
+        let ran = run_by(rt, alloc, 10, turns, &counts, is_lane)?;
+        assert!(rt; ran == as_wanted(1, 1, 6_000, 6_000), "{is_lane}");
     }
     Ok(())
 }

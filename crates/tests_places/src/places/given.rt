@@ -18,15 +18,15 @@ fn three(alloc: Global) -> Option<Vec<Found>> {
 }
 
 /// SUBACK, and a PUBLISH of each.
-const ALL: &[u8] =
+pub const ALL: &[u8] =
     b"\x90\x04\x00\x01\x00\x00\x31\x07\x00\x03a/b\x00x\x31\x07\x00\x03a/c\x00y\x31\x07\x00\x03a/d\x00z";
 
 /// CONNECT, a clearing of each, of QoS 1, DISCONNECT.
-const CLEARS: &[u8] =
+pub const CLEARS: &[u8] =
     b"\x10\x0E\x00\x04MQTT\x05\x02\x00\x3C\x00\x00\x01a\x33\x08\x00\x03a/b\x00\x01\x00\x33\x08\x00\x03a/c\x00\x02\x00\x33\x08\x00\x03a/d\x00\x03\x00\xE0\x00";
 
 /// A PUBACK for each.
-const CLEARED: &[u8] = b"\x40\x02\x00\x01\x40\x02\x00\x02\x40\x02\x00\x03";
+pub const CLEARED: &[u8] = b"\x40\x02\x00\x01\x40\x02\x00\x02\x40\x02\x00\x03";
 
 /// The first connection of each place is sent what was given, in the order of replay. Then one clears it, and the next are sent nothing.
 #[test]

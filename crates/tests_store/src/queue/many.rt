@@ -40,7 +40,7 @@ struct Row {
 }
 
 /// So many Sets. `None` if memory is refused.
-fn changes_of(alloc: Global, count: u64) -> Option<Vec<Operation>>
+pub(crate) fn changes_of(alloc: Global, count: u64) -> Option<Vec<Operation>>
     ensures { IfSome result (λ changes. All (λ o. is_sweep o ≡ false) changes.items) }
 {
     let mut changes = Vec::new(alloc);
@@ -85,7 +85,7 @@ fn submit<N: LineName, R: Wait>(
 
 /// The lines submit what they announced and are closed, from the last to the first: so the writer replies to all others before anyone reads
 /// it. How many changes have receipts. `None` if memory is refused.
-fn finish<N: LineName, R: Wait>(
+pub(crate) fn finish<N: LineName, R: Wait>(
     rt: &R,
     alloc: Global,
     lines: Vec<SeatLine<N>>,
