@@ -291,6 +291,44 @@ fn clients_share_a_store(rt: HostRuntime) -> Result<(), Fail> {
     Ok(())
 }
 
+/// A server for one client, whose messages this folder keeps.
+fn bind_kept<
+    H: Clock
+        + Net<Listener = TcpListener, Stream = TcpStream>
+        + Threads
+        + Files<File = fs::File>
+        + OpenFiles
+        + AllocGlobal,
+>(rt: &H, alloc: Global, folder: &str, sync: SyncPolicy) -> Result<Server, Fail> {
+    let server = Server::bind(rt, alloc, "127.0.0.1:0", settings(1, 1, 1, None)?)?;
+    Ok(server.with_journal(rt, folder, sync)?)
+}
+
+/// Starts such a server: its address, and the thread that serves.
+fn start_kept<
+    H: Clock
+        + Log
+        + Net<Listener = TcpListener, Stream = TcpStream>
+        + Threads
+        + Files<File = fs::File>
+        + OpenFiles
+        + AllocGlobal
+        + Wait
+        + Copy
+        + Send
+        + Sync
+        + 'static,
+>(
+    rt: H,
+    alloc: Global,
+    folder: &str,
+    sync: SyncPolicy,
+) -> Result<(String, JoinHandle<Option<Summary>>), Fail> {
+    let server = bind_kept(&rt, alloc, folder, sync)?;
+    let address = server.address()?;
+    Ok((address, run(rt, server)?))
+}
+
 /// Whether a server that keeps its messages in this folder answers so, and ends then.
 fn answers_kept<
     H: Clock
@@ -313,10 +351,7 @@ fn answers_kept<
     packet: &[u8],
     answer: &[u8],
 ) -> Result<bool, Fail> {
-    let server = Server::bind(&rt, alloc, "127.0.0.1:0", settings(1, 1, 1, None)?)?;
-    let server = server.with_journal(&rt, folder, sync)?;
-    let address = server.address()?;
-    let serving = run(rt, server)?;
+    let (address, serving) = start_kept(rt, alloc, folder, sync)?;
     let went = is_served(&rt, address.as_str(), packet, answer);
     Ok(went && serving.join(&rt).is_some())
 }

@@ -152,37 +152,54 @@ fn words_ask_to_listen(rt: HostRuntime) -> Result<(), Fail> {
     Ok(())
 }
 
+/// What a command line asks for that gives an address, an end and what keeps the messages.
+fn listens_kept(alloc: Global, folder: &str, sync: SyncPolicy) -> Result<Run, Fail> {
+    let places = PlaceCount::new(4).ok_or("places")?;
+    let topics = TopicLimit::new(10_000).ok_or("topics")?;
+    let address = String::from_str(alloc, "a:1")?;
+    let folder = String::from_str(alloc, folder)?;
+    Ok(Run::Listen {
+        address,
+        places,
+        clients: 4,
+        topics,
+        memory: None,
+        connections: None,
+        idle: None,
+        log: false,
+        metrics: None,
+        keep: Some(Keep { folder, sync }),
+    })
+}
+
 #[test]
 fn words_ask_to_keep(rt: HostRuntime) -> Result<(), Fail> {
     let alloc = rt.alloc();
     let commands = [
-        ("--keep x", "x", SyncPolicy::Always),
         (
-            "--keep=/var/lib/x --sync=always",
+            "listen --endless --keep x --address a:1",
+            "x",
+            SyncPolicy::Always,
+        ),
+        (
+            "listen --endless --keep=/var/lib/x --sync=always --address a:1",
             "/var/lib/x",
             SyncPolicy::Always,
         ),
-        ("--sync second --keep .", ".", SyncPolicy::Second),
-        ("--keep .. --sync never", "..", SyncPolicy::Never),
+        (
+            "listen --endless --sync second --keep . --address a:1",
+            ".",
+            SyncPolicy::Second,
+        ),
+        (
+            "listen --endless --keep .. --sync never --address a:1",
+            "..",
+            SyncPolicy::Never,
+        ),
     ];
-    for (words, folder, sync) in commands {
-        let command = format!(in alloc; "listen --endless {words} --address a:1")?;
-        let wanted = Run::Listen {
-            address: String::from_str(alloc, "a:1")?,
-            places: PlaceCount::new(4).ok_or("places")?,
-            clients: 4,
-            topics: TopicLimit::new(10_000).ok_or("topics")?,
-            memory: None,
-            connections: None,
-            idle: None,
-            log: false,
-            metrics: None,
-            keep: Some(Keep {
-                folder: String::from_str(alloc, folder)?,
-                sync,
-            }),
-        };
-        assert!(rt; asks(alloc, command.as_str(), &wanted)?, "{words}");
+    for (command, folder, sync) in commands {
+        let wanted = listens_kept(alloc, folder, sync)?;
+        assert!(rt; asks(alloc, command, &wanted)?, "{command}");
     }
     Ok(())
 }
