@@ -451,16 +451,62 @@ fn is_healthy<H: Clock + Net<Listener = TcpListener, Stream = TcpStream>>(
     Ok(false)
 }
 
+/// Whether a server has no address for metrics.
+fn is_silent(server: &Server) -> Result<bool, Fail> {
+    Ok(server.metrics_address()?.is_none())
+}
+
+/// The same of one without metrics.
+fn tells_nobody<H: Net<Listener = TcpListener, Stream = TcpStream> + Threads + Files + AllocGlobal>(
+    rt: &H,
+    alloc: Global,
+) -> Result<bool, Fail> {
+    let settings = settings(1, 1, 1, None)?;
+    let server = Server::bind(rt, alloc, "127.0.0.1:0", settings)?;
+    is_silent(&server)
+}
+
+/// A server for one client that tells its numbers.
+fn bind_told<H: Net<Listener = TcpListener, Stream = TcpStream> + Threads + Files + AllocGlobal>(
+    rt: &H,
+    alloc: Global,
+) -> Result<Server, Fail> {
+    let server = Server::bind(rt, alloc, "127.0.0.1:0", settings(1, 1, 1, None)?)?;
+    Ok(server.with_metrics(rt, "127.0.0.1:0")?)
+}
+
+/// The address of a server, and that where it tells its numbers.
+fn addresses(server: &Server) -> Result<(String, String), Fail> {
+    let address = server.address()?;
+    let told = server.metrics_address()?.ok_or("no address")?;
+    Ok((address, told))
+}
+
+/// Starts a server that tells its numbers: its addresses, and the thread that serves.
+fn start_told<
+    H: Clock
+        + Log
+        + Net<Listener = TcpListener, Stream = TcpStream>
+        + Threads
+        + Files
+        + AllocGlobal
+        + Wait
+        + Copy
+        + Send
+        + Sync
+        + 'static,
+>(rt: H, alloc: Global) -> Result<(String, String, JoinHandle<Option<Summary>>), Fail> {
+    let server = bind_told(&rt, alloc)?;
+    let (address, told) = addresses(&server)?;
+    Ok((address, told, run(rt, server)?))
+}
+
 /// Its health is told while it runs. Once its clients have ended, it ends, and nobody is told any more.
 #[test]
 fn a_server_tells_its_health(rt: HostRuntime) -> Result<(), Fail> {
     let alloc = rt.alloc();
-    let server = Server::bind(&rt, alloc, "127.0.0.1:0", settings(1, 1, 1, None)?)?;
-    assert!(rt; server.metrics_address()?.is_none());
-    let server = server.with_metrics(&rt, "127.0.0.1:0")?;
-    let address = server.address()?;
-    let told = server.metrics_address()?.ok_or("no address")?;
-    let serving = run(rt, server)?;
+    assert!(rt; tells_nobody(&rt, alloc)?);
+    let (address, told, serving) = start_told(rt, alloc)?;
     assert!(rt; is_healthy(&rt, told.as_str())?);
     assert!(rt; is_served(&rt, address.as_str(), PUBLISH, PUBACK));
     let summary = Summary {
